@@ -11,6 +11,7 @@ mod take;
 ghost use mathlib.Core.Path.{_≡_};
 ghost use Rattle.chip.specs.Head.{at, pointing, choosing, paced, flagging, framing, silent, answering};
 use bits::Selector;
+pub use events::running;
 pub use memory::burn;
 
 // The places of the one-way bits in the flags beside the zones' 0 to 3.
