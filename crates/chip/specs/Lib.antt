@@ -3,3 +3,4 @@ pub mod Stages
 pub mod Cycle
 pub mod Memory
 pub mod Take
+pub mod Pages
