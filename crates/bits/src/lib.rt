@@ -1,6 +1,7 @@
 // Bytes taken apart by masks and shifts, and merged. Every function is total.
 ghost use mathlib.Core.Path.{_≡_};
 ghost use Prim.Native.Nat.{ℕ, _+_, _-_, _*_, _/_, _%_, _^_, _<_, _≤_};
+ghost use lib.Count.{trailingZeros};
 ghost use Rattle.bits.specs.Bytes.{moreOf, bitAt, opcodeOf, slaveOf, readOf, mainAddress, securityAddress, zoneOf, hasFlag, withFlag, maskByte, merged};
 
 // The byte so far with one bit more, the most significant first.
@@ -55,14 +56,20 @@ pub enum Selector {
     Zone(u8),
 }
 
+// The place of a byte's lowest one, 8 where it has none.
+fn lowest_one(byte: u8) -> u8
+    ensures { λ r. ⌜ r ≡ trailingZeros 8 byte ⌝ }
+{
+    u8::trailing_zeros(byte) as u8
+}
+
 // The zone that a zone byte names: the place of the only one among its four low bits.
 pub fn zone_of(byte: u8) -> Selector
     ensures { λ r. ⌜ r ≡ zoneOf byte ⌝ }
 {
     let low = byte & 15;
     if u8::count_ones(low) == 1 {
-        let place = u8::trailing_zeros(low) as u8;
-        return Selector::Zone(place);
+        return Selector::Zone(lowest_one(low));
     }
     Selector::Unset
 }
@@ -88,7 +95,13 @@ pub fn mask_byte(mask: u64, address: u8) -> u8
     ensures { λ r. ⌜ r ≡ maskByte mask address ⌝ }
 {
     let k = wide(address) % 8;
-    ((mask >> (8 * k)) & 255) as u8
+    low_byte(mask >> (8 * k))
+}
+
+fn low_byte(x: u64) -> u8
+    ensures { λ r. ⌜ r ≡ x % 256 ⌝ }
+{
+    (x & 255) as u8
 }
 
 fn wide(x: u8) -> u64
