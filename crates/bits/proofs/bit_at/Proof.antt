@@ -1,3 +1,4 @@
+-- `bits::bit_at`: what it returns is the definition, by the contracts of what it calls.
 use Prim.Native.Nat.{_-_, _/_, _%_, _^_}
 use lib.Bits.{and-mask}
 use borrow.Author.Needs.{needs}

@@ -1,3 +1,4 @@
+-- `bits::low_byte`: what it returns is the definition, by the contracts of what it calls.
 use native.Mathlib.Omega.{arith}
 use lib.Bits.{and-mask, mask-lt}
 use Rattle.bits.proofs.low_byte.Statement.{statement}

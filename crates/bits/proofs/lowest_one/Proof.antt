@@ -1,3 +1,4 @@
+-- `bits::lowest_one`: what it returns is the definition, by the contracts of what it calls.
 use native.Mathlib.Omega.{arith}
 use lib.Count.{trailing-le}
 use borrow.Author.Needs.{needs}

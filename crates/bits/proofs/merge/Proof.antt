@@ -1,3 +1,4 @@
+-- `bits::merge`: what it returns is the definition, by the contracts of what it calls.
 use Prim.Native.Nat.{_-_}
 use native.Mathlib.Omega.{arith}
 use Rattle.bits.specs.Bytes.{merged}

@@ -1,3 +1,4 @@
+-- `bits::reads`: what it returns is the definition, by the contracts of what it calls.
 use Prim.Native.Nat.{ℕ}
 use lib.Bits.{and-mask}
 use lib.Dec.{eqb}

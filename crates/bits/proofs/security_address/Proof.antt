@@ -1,3 +1,4 @@
+-- `bits::security_address`: what it returns is the definition, by the contracts of what it calls.
 use lib.Bits.{and-mask}
 use Rattle.bits.proofs.security_address.Statement.{statement}
 use Rattle.bits.proofs.security_address.Tie as tie

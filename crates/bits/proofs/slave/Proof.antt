@@ -1,3 +1,4 @@
+-- `bits::slave`: what it returns is the definition, by the contracts of what it calls.
 use Prim.Native.Nat.{_/_}
 use lib.Bits.{and-mask}
 use Rattle.bits.proofs.slave.Statement.{statement}

@@ -1,3 +1,4 @@
+-- `bits::zone_of`: each return is its case of the definition, by the tests and calls that lead to it.
 use borrow.Author.Tests.{eq-eqb, ne-eqb}
 use Rattle.bits.proofs.ZoneLaws.{zone-is}
 use borrow.Author.Needs.{needs}

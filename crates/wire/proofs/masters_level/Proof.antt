@@ -1,3 +1,4 @@
+-- `wire::masters_level`: each return is its case of the definition, by the tests and calls that lead to it.
 use borrow.Author.Needs.{needs}
 use Rattle.wire.proofs.masters_level.Statement.{statement}
 use Rattle.wire.proofs.masters_level.Tie as tie

@@ -1,3 +1,4 @@
+-- `wire::presence`: each return is its case of the definition, by the tests and calls that lead to it.
 use borrow.Author.Tests.{eq-eqb, ne-eqb}
 use Rattle.wire.proofs.presence.Statement.{statement}
 use Rattle.wire.proofs.presence.Tie as tie

@@ -1,3 +1,4 @@
+-- `wire::pulled`: each return is its case of the definition, by the tests and calls that lead to it.
 use borrow.Author.Tests.{eq-eqb, ne-eqb}
 use Rattle.wire.proofs.pulled.Statement.{statement}
 use Rattle.wire.proofs.pulled.Tie as tie

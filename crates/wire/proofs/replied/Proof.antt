@@ -1,3 +1,4 @@
+-- `wire::replied`: each return is its case of the definition, by the tests and calls that lead to it.
 use borrow.Author.Needs.{needs}
 use Rattle.wire.proofs.replied.Statement.{statement}
 use Rattle.wire.proofs.replied.Tie as tie

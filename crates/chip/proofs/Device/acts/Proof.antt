@@ -1,3 +1,4 @@
+-- `chip::Device::acts`: each return is its case of the definition, by the tests and calls that lead to it.
 use Rattle.chip.specs.Memory.{acted}
 use borrow.Author.Needs.{needs}
 use Rattle.chip.proofs.Device.acts.Statement.{statement}

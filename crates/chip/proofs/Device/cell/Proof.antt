@@ -1,3 +1,4 @@
+-- `chip::Device::cell`: each return is its case of the definition, by the tests and calls that lead to it.
 use borrow.Author.Needs.{needs}
 use Rattle.chip.proofs.Device.cell.Statement.{statement}
 use Rattle.chip.proofs.Device.cell.Tie as tie

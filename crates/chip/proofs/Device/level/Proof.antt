@@ -1,3 +1,4 @@
+-- `chip::Device::level`: each return is its case of the definition, by the tests and calls that lead to it.
 use Rattle.chip.specs.Memory.{levelOf}
 use borrow.Author.Needs.{needs}
 use Rattle.chip.proofs.Device.level.Statement.{statement}

@@ -1,3 +1,4 @@
+-- `chip::Device::programs_page`: each return is its case of the definition, by the tests and calls that lead to it.
 use borrow.Author.Needs.{needs}
 use Rattle.chip.proofs.Device.programs_page.Statement.{statement}
 use Rattle.chip.proofs.Device.programs_page.Tie as tie

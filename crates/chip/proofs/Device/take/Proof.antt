@@ -1,3 +1,4 @@
+-- `chip::Device::take`: what it returns is the definition, by the contracts of what it calls.
 use Rattle.chip.specs.Take.{takeOf}
 use borrow.Author.Needs.{needs}
 use Rattle.chip.proofs.Device.take.Statement.{statement}

@@ -1,3 +1,4 @@
+-- `chip::Head::address_frame`: each return is its case of the definition, by the tests and calls that lead to it.
 use borrow.Author.Tests.{lt-ltb, le-ltb}
 use borrow.Author.Needs.{needs}
 use Rattle.chip.proofs.Head.address_frame.Statement.{statement}

@@ -1,3 +1,4 @@
+-- `chip::Head::answers_lock_byte`: each return is its case of the definition, by the tests and calls that lead to it.
 use borrow.Author.Tests.{eq-eqb, ne-eqb}
 use borrow.Author.Needs.{needs}
 use Rattle.chip.proofs.Head.answers_lock_byte.Statement.{statement}

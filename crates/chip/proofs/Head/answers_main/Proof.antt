@@ -1,3 +1,4 @@
+-- `chip::Head::answers_main`: each return is its case of the definition, by the tests and calls that lead to it.
 use borrow.Author.Needs.{needs}
 use Rattle.chip.proofs.Head.answers_main.Statement.{statement}
 use Rattle.chip.proofs.Head.answers_main.Tie as tie

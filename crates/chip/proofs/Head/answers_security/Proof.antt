@@ -1,3 +1,4 @@
+-- `chip::Head::answers_security`: each return is its case of the definition, by the tests and calls that lead to it.
 use borrow.Author.Tests.{lt-ltb, le-ltb}
 use borrow.Author.Needs.{needs}
 use Rattle.chip.proofs.Head.answers_security.Statement.{statement}

@@ -1,3 +1,4 @@
+-- `chip::Head::flags_after`: each return is its case of the definition, by the tests and calls that lead to it.
 use borrow.Author.Needs.{needs}
 use Rattle.chip.proofs.Head.flags_after.Statement.{statement}
 use Rattle.chip.proofs.Head.flags_after.Tie as tie

@@ -1,3 +1,4 @@
+-- `chip::Head::hears`: each return is its case of the definition, by the tests and calls that lead to it.
 use Rattle.chip.specs.Cycle.{heard}
 use borrow.Author.Needs.{needs}
 use Rattle.chip.proofs.Head.hears.Statement.{statement}

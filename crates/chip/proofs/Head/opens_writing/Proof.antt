@@ -1,3 +1,4 @@
+-- `chip::Head::opens_writing`: each return is its case of the definition, by the tests and calls that lead to it.
 use borrow.Author.Needs.{needs}
 use Rattle.chip.proofs.Head.opens_writing.Statement.{statement}
 use Rattle.chip.proofs.Head.opens_writing.Tie as tie

@@ -1,3 +1,4 @@
+-- `chip::Head::reset`: each return is its case of the definition, by the tests and calls that lead to it.
 use borrow.Author.Needs.{needs}
 use Rattle.chip.proofs.Head.reset.Statement.{statement}
 use Rattle.chip.proofs.Head.reset.Tie as tie

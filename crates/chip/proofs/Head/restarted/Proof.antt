@@ -1,3 +1,4 @@
+-- `chip::Head::restarted`: what it returns is the definition, by the contracts of what it calls.
 use borrow.Author.Needs.{needs}
 use Rattle.chip.proofs.Head.restarted.Statement.{statement}
 use Rattle.chip.proofs.Head.restarted.Tie as tie

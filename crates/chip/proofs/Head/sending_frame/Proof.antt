@@ -1,3 +1,4 @@
+-- `chip::Head::sending_frame`: each return is its case of the definition, by the tests and calls that lead to it.
 use borrow.Author.Tests.{lt-ltb, le-ltb, eq-eqb, ne-eqb}
 use borrow.Author.Needs.{needs}
 use Rattle.chip.proofs.Head.sending_frame.Statement.{statement}

@@ -1,3 +1,4 @@
+-- `chip::address::named`: each return is its case of the definition, by the tests and calls that lead to it.
 use Rattle.chip.specs.Stages.{named}
 use borrow.Author.Tests.{eq-eqb, ne-eqb}
 use Rattle.chip.proofs.address.named.Statement.{statement}

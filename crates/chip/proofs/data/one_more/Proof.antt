@@ -1,3 +1,4 @@
+-- `chip::data::one_more`: each return is its case of the definition, by the tests and calls that lead to it.
 use borrow.Author.Tests.{lt-ltb, le-ltb}
 use borrow.Author.Needs.{needs}
 use Rattle.chip.proofs.data.one_more.Statement.{statement}

@@ -1,3 +1,4 @@
+-- `chip::events::due`: each return is its case of the definition, by the tests and calls that lead to it.
 use borrow.Author.Tests.{eq-eqb, ne-eqb}
 use borrow.Author.Needs.{needs}
 use Rattle.chip.proofs.events.due.Statement.{statement}

@@ -1,3 +1,4 @@
+-- `chip::events::rom_bit`: each return is its case of the definition, by the tests and calls that lead to it.
 use borrow.Author.Needs.{needs}
 use Rattle.chip.proofs.events.rom_bit.Statement.{statement}
 use Rattle.chip.proofs.events.rom_bit.Tie as tie

@@ -1,3 +1,4 @@
+-- `chip::events::running`: each return is its case of the definition, by the tests and calls that lead to it.
 use borrow.Author.Needs.{needs}
 use Rattle.chip.proofs.events.running.Statement.{statement}
 use Rattle.chip.proofs.events.running.Tie as tie

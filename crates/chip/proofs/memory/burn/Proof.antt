@@ -1,3 +1,4 @@
+-- `chip::memory::burn`: the loop goes as its definition does, one turn a step.
 use borrow.Author.Needs.{needs}
 use Prim.Native.Nat.{_≤_, _-_}
 use native.Mathlib.Omega.{arith}

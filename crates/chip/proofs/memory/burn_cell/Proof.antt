@@ -1,3 +1,4 @@
+-- `chip::memory::burn_cell`: each return is its case of the definition, by the tests and calls that lead to it.
 use mathlib.Core.Path.{sym}
 use lib.Seq.{set-out}
 use borrow.Author.Needs.{needs}

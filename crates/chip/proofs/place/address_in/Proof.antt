@@ -1,3 +1,4 @@
+-- `chip::place::address_in`: each return is its case of the definition, by the tests and calls that lead to it.
 use borrow.Author.Needs.{needs}
 use Rattle.chip.proofs.place.address_in.Statement.{statement}
 use Rattle.chip.proofs.place.address_in.Tie as tie

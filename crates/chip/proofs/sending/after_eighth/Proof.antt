@@ -1,3 +1,4 @@
+-- `chip::sending::after_eighth`: each return is its case of the definition, by the tests and calls that lead to it.
 use borrow.Author.Needs.{needs}
 use Rattle.chip.proofs.sending.after_eighth.Statement.{statement}
 use Rattle.chip.proofs.sending.after_eighth.Tie as tie

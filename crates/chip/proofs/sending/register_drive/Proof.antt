@@ -1,3 +1,4 @@
+-- `chip::sending::register_drive`: each return is its case of the definition, by the tests and calls that lead to it.
 use borrow.Author.Needs.{needs}
 use Rattle.chip.proofs.sending.register_drive.Statement.{statement}
 use Rattle.chip.proofs.sending.register_drive.Tie as tie
