@@ -1,0 +1,11 @@
+pub mod BurnLaws
+pub mod Frames
+pub mod PageWrites
+pub mod OneWayWrites
+pub mod Sentences
+pub mod OneDevice
+pub mod Bus
+pub mod ByteLaws
+pub mod CellLaws
+pub mod EventLaws
+pub mod AllLaws
