@@ -1,6 +1,7 @@
 // 003, section 6.2: "If a Stop condition is sent at any other time, the write operation is aborted." Each write command, with a second data byte, is
 // left by a Null after each number of frames.
 use crate::device;
+use crate::device::Part;
 use crate::text;
 use crate::wire;
 use chip::Device;
@@ -30,7 +31,7 @@ fn frame(bytes: [u8; 4], k: u8) -> u8 {
 
 // A device just after n frames of a command and a Null.
 fn left_after(bytes: [u8; 4], n: u8) -> Device {
-    let mut d = wire::started(device::at21cs01());
+    let mut d = wire::started(device::new(Part::At21cs01));
     let mut k: u8 = 0;
     while k < n {
         d = wire::after(d, Event::Bit(frame(bytes, k)));
@@ -58,7 +59,7 @@ fn arrives(bytes: [u8; 4], n: u8) -> bool {
 
 fn lists(n: u8, is_so: bool) {
     if is_so {
-        text::write(b" ");
+        text::letter(b' ');
         text::decimal(n as u64);
     }
 }
@@ -78,7 +79,7 @@ fn tries(words: &[u8], sign: Sign, bytes: [u8; 4]) {
         lists(n, shows(sign, bytes, n));
         n += 1;
     }
-    text::write(b"\n");
+    text::letter(b'\n');
 }
 
 pub fn plays() {

@@ -1,4 +1,6 @@
 // A bench with one device: it plays a script and writes each act with what came back.
+use crate::device;
+use crate::device::Part;
 use crate::script;
 use crate::script::Act;
 use crate::script::Mode;
@@ -6,48 +8,52 @@ use crate::text;
 use crate::wire;
 use chip::Device;
 use chip::Event;
+use chip::Region;
 
 fn sends(d: Device, byte: u8) -> Device {
     let t = wire::sends(d, byte);
-    text::write(b" ");
-    text::byte(byte);
-    text::write(b":");
-    text::bit(t.level);
+    text::letter(b' ');
+    text::exchange(byte, t.level);
     t.device
 }
 
 fn reads(d: Device, ninth: u8) -> Device {
     let g = wire::gets(d);
     text::write(b" <");
-    text::byte(g.byte);
-    text::write(b":");
-    text::bit(ninth);
+    text::exchange(g.byte, ninth);
     wire::after(g.device, Event::Bit(ninth))
 }
 
-fn starts(d: Device, words: &[u8], ev: Event) -> Device {
-    text::write(words);
-    wire::after(d, ev)
+// What stands for an event: its letter, with the mask of a Cut and the level of the discovery response.
+fn names(ev: Event, level: u8) {
+    match ev {
+        Event::Bit(b) => text::bit(b),
+        Event::Null => text::write(b" N"),
+        Event::Wait => text::write(b" W"),
+        Event::Reset => {
+            text::write(b" R:");
+            text::bit(level);
+        }
+        Event::Cut(mask) => {
+            text::write(b" C(");
+            text::mask(mask);
+            text::write(b"):");
+            text::bit(level);
+        }
+    }
 }
 
-// The discovery response after a Reset or a Cut.
-fn discovers(d: Device, ev: Event) -> Device {
+fn takes(d: Device, ev: Event) -> Device {
     let t = d.take(ev);
-    text::write(b":");
-    text::bit(t.level);
+    names(ev, t.level);
     t.device
 }
 
-fn resets(d: Device) -> Device {
-    text::write(b" R");
-    discovers(d, Event::Reset)
-}
-
-fn cuts(d: Device, mask: u64) -> Device {
-    text::write(b" C(");
-    text::mask(mask);
-    text::write(b")");
-    discovers(d, Event::Cut(mask))
+fn looks(d: Device, address: u8) {
+    text::write(b" ?");
+    text::byte(address);
+    text::letter(b'=');
+    text::byte(d.cell(Region::Main, address));
 }
 
 fn acts(d: Device, a: Act) -> Device {
@@ -59,15 +65,16 @@ fn acts(d: Device, a: Act) -> Device {
         }
         Act::Send(byte) => sends(d, byte),
         Act::Read(ninth) => reads(d, ninth),
-        Act::Null => starts(d, b" N", Event::Null),
-        Act::Wait => starts(d, b" W", Event::Wait),
-        Act::Reset => resets(d),
-        Act::Cut(mask) => cuts(d, mask),
+        Act::Take(ev) => takes(d, ev),
+        Act::Look(address) => {
+            looks(d, address);
+            d
+        }
     }
 }
 
-pub fn plays(first: Device, letters: &[u8]) -> Device {
-    let mut d = first;
+pub fn plays(part: Part, letters: &[u8]) {
+    let mut d = device::new(part);
     let mut m = Mode::Words;
     let mut i = 0;
     while i < letters.len() {
@@ -75,5 +82,4 @@ pub fn plays(first: Device, letters: &[u8]) -> Device {
         m = script::mode_after(m, letters[i]);
         i += 1;
     }
-    d
 }

@@ -1,10 +1,10 @@
 // Document 01, "Mixture": a Cut while the device programs. Mask bytes are counted from the right.
 use crate::bench;
-use crate::device;
+use crate::device::Part;
 
 fn cells() {
     bench::plays(
-        device::at21cs01(),
+        Part::At21cs01,
         b"
 Cut
 old bytes: N A0 10 F0 F0 F0 F0 F0 W
@@ -18,7 +18,7 @@ pointer 00h after it: N A0 10 N A1 - (0000000000000000) N A1 -
 
 fn one_way_bits() {
     bench::plays(
-        device::at21cs01(),
+        Part::At21cs01,
         b"lock, lowest mask bit 0: N 20 60 00 N (FFFFFFFFFFFFFFFE) N 20 60
 lock, lowest mask bit 1: N 20 60 00 N (0000000000000001) N 20 60
 zone 3, lowest mask bit 0: N 70 08 FF N (FFFFFFFFFFFFFFFE) N 70 08 N 71 -

@@ -4,6 +4,11 @@ use chip::Device;
 use chip::Speed;
 use chip::Stage;
 
+pub enum Part {
+    At21cs01,
+    At21cs11,
+}
+
 const PART_01: u8 = 0x01;
 
 const PART_11: u8 = 0x11;
@@ -30,10 +35,9 @@ fn delivered(part: u8, id: [u8; 3]) -> Device {
     }
 }
 
-pub fn at21cs01() -> Device {
-    delivered(PART_01, [0x00, 0xD2, 0x00])
-}
-
-pub fn at21cs11() -> Device {
-    delivered(PART_11, [0x00, 0xD3, 0x80])
+pub fn new(part: Part) -> Device {
+    match part {
+        Part::At21cs01 => delivered(PART_01, [0x00, 0xD2, 0x00]),
+        Part::At21cs11 => delivered(PART_11, [0x00, 0xD3, 0x80]),
+    }
 }

@@ -20,6 +20,7 @@ fn main() {
         b"
 N Null, W Wait, R:p Reset, C(mask):p Cut, p the level of the discovery response
 A0:0 a byte sent and its answer, <5C:1 a byte read and the master's ninth bit
+?30=FF what a cell holds, not over the wire
 ",
     );
     writing::plays();

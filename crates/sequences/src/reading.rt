@@ -1,12 +1,11 @@
 // 003, sections 7.1 to 7.3 and 7.5: reads of the main array, and the manufacturer ID.
 use crate::bench;
-use crate::device;
+use crate::device::Part;
 use crate::text;
-use chip::Device;
 
 fn main_array() {
     bench::plays(
-        device::at21cs01(),
+        Part::At21cs01,
         b"
 Reading
 6.3 cells 00h to 07h: N A0 00 10 11 12 13 14 15 16 17 W
@@ -20,9 +19,9 @@ Reading
 }
 
 // Document 01: "three ID bytes, each next one asked for as above, then standby; the pointer stays".
-fn manufacturer_id(d: Device) {
+fn manufacturer_id(part: Part) {
     bench::plays(
-        d,
+        part,
         b"7.5 R/W 0: N C0
 7.5 the pointer is set: N A0 02 12 W N A0 02
 7.5 manufacturer ID, then standby: N C1 + + + -
@@ -34,7 +33,7 @@ fn manufacturer_id(d: Device) {
 pub fn plays() {
     main_array();
     text::write(b"\nManufacturer ID, AT21CS01\n");
-    manufacturer_id(device::at21cs01());
+    manufacturer_id(Part::At21cs01);
     text::write(b"\nManufacturer ID, AT21CS11\n");
-    manufacturer_id(device::at21cs11());
+    manufacturer_id(Part::At21cs11);
 }

@@ -1,10 +1,10 @@
 // Document 01: "After load, Reset or Cut: pointer 00h, high speed, no zone selector, and bits are ignored until a Null or Wait." No lock is cleared.
 use crate::bench;
-use crate::device;
+use crate::device::Part;
 
 pub fn plays() {
     bench::plays(
-        device::at21cs01(),
+        Part::At21cs01,
         b"
 Reset
 bits before the first Null: A0

@@ -1,5 +1,6 @@
 // A script is lines of words, a colon and acts. Two digits send a byte; + and - read one and ask for the next or end; N, W and R are the events
-// of these letters; a mask in brackets is a Cut.
+// of these letters; a mask in brackets is a Cut; ? with two digits looks at a cell.
+use chip::Event;
 
 // What the next letter belongs to.
 pub enum Mode {
@@ -9,6 +10,9 @@ pub enum Mode {
     Byte(u8),
     // the mask so far
     Mask(u64),
+    // the first digit of a cell's address
+    Cell,
+    CellByte(u8),
 }
 
 // What a letter asks for.
@@ -18,10 +22,8 @@ pub enum Act {
     Send(u8),
     // with the master's ninth bit
     Read(u8),
-    Null,
-    Wait,
-    Reset,
-    Cut(u64),
+    Take(Event),
+    Look(u8),
 }
 
 const NO_DIGIT: u8 = 16;
@@ -50,6 +52,9 @@ fn mode_after_act(c: u8) -> Mode {
     if c == b'(' {
         return Mode::Mask(0);
     }
+    if c == b'?' {
+        return Mode::Cell;
+    }
     let v = value(c);
     if v < NO_DIGIT {
         return Mode::Byte(v);
@@ -77,6 +82,8 @@ pub fn mode_after(m: Mode, c: u8) -> Mode {
             }
             Mode::Mask(mask % 0x1000_0000_0000_0000 * 16 + wide(value(c)) % 16)
         }
+        Mode::Cell => Mode::CellByte(value(c)),
+        Mode::CellByte(_) => Mode::Acts,
     }
 }
 
@@ -85,13 +92,13 @@ fn act_alone(c: u8) -> Act {
         return Act::Copy(c);
     }
     if c == b'N' {
-        return Act::Null;
+        return Act::Take(Event::Null);
     }
     if c == b'W' {
-        return Act::Wait;
+        return Act::Take(Event::Wait);
     }
     if c == b'R' {
-        return Act::Reset;
+        return Act::Take(Event::Reset);
     }
     if c == b'+' {
         return Act::Read(0);
@@ -102,16 +109,22 @@ fn act_alone(c: u8) -> Act {
     Act::Nothing
 }
 
+fn byte_of(high: u8, c: u8) -> u8 {
+    high % 16 * 16 + value(c) % 16
+}
+
 pub fn act_at(m: Mode, c: u8) -> Act {
     match m {
         Mode::Words => Act::Copy(c),
         Mode::Acts => act_alone(c),
-        Mode::Byte(high) => Act::Send(high % 16 * 16 + value(c) % 16),
+        Mode::Byte(high) => Act::Send(byte_of(high, c)),
         Mode::Mask(mask) => {
             if c == b')' {
-                return Act::Cut(mask);
+                return Act::Take(Event::Cut(mask));
             }
             Act::Nothing
         }
+        Mode::Cell => Act::Nothing,
+        Mode::CellByte(high) => Act::Look(byte_of(high, c)),
     }
 }

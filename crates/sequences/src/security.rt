@@ -1,16 +1,15 @@
 // 003, sections 6.4, 6.5 and 7.4: the Security Register, its serial number and its lock.
 use crate::bench;
 use crate::device;
+use crate::device::Part;
 use crate::text;
 use crate::wire;
-use chip::Device;
-use chip::Event;
 
 const ADDRESSES: u8 = 32;
 
 // The answer to a data byte at an address.
 fn answer_at(address: u8) -> u8 {
-    let d = wire::started(device::at21cs01());
+    let d = wire::started(device::new(Part::At21cs01));
     let a = wire::passes(wire::passes(d, 0xB0), address);
     let t = wire::sends(a, 0x77);
     t.level
@@ -23,12 +22,12 @@ fn answers() {
         text::bit(answer_at(address));
         address += 1;
     }
-    text::write(b"\n");
+    text::letter(b'\n');
 }
 
-fn register() -> Device {
+fn register() {
     bench::plays(
-        device::at21cs01(),
+        Part::At21cs01,
         b"
 Security Register
 6.4 two user bytes: N B0 10 C1 C2 W
@@ -38,14 +37,7 @@ Security Register
 7.4 cells 18h to 1Fh, then 00h: N B0 F8 N B1 + + + + + + + + -
 7.4.1 serial number, reserved bytes: N B0 00 N B1 + + + + + + + + + + + + + + + -
 7 one pointer, 45h is Security 05h: N A0 45 N B1 -
-",
-    )
-}
-
-fn lock(d: Device) {
-    bench::plays(
-        d,
-        b"6.5.2 check lock: N 20 60 N 21 60 00
+6.5.2 check lock: N 20 60 N 21 60 00
 6.5 another byte than 6xh: N 20 50
 6.5 a second data byte: N 20 60 00 00 W
 6.5.2 check lock: N 20 60 N 21 60
@@ -58,6 +50,6 @@ fn lock(d: Device) {
 }
 
 pub fn plays() {
-    lock(register());
+    register();
     answers();
 }

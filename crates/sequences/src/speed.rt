@@ -1,12 +1,11 @@
 // 003, section 6.6: the speeds, set with R/W 0 and asked with R/W 1. Part 11h has no standard speed.
 use crate::bench;
-use crate::device;
+use crate::device::Part;
 use crate::text;
-use chip::Device;
 
-fn speeds(d: Device) {
+fn speeds(part: Part) {
     bench::plays(
-        d,
+        part,
         b"6.6 high at first: N E1 N D1
 6.6.1 standard speed: N D0 N D1 N E1
 6.6.2 high speed: N E0 N D1 N E1
@@ -16,7 +15,7 @@ fn speeds(d: Device) {
 
 pub fn plays() {
     text::write(b"\nSpeed, AT21CS01\n");
-    speeds(device::at21cs01());
+    speeds(Part::At21cs01);
     text::write(b"\nSpeed, AT21CS11\n");
-    speeds(device::at21cs11());
+    speeds(Part::At21cs11);
 }

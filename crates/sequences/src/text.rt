@@ -31,6 +31,13 @@ pub fn byte(x: u8) {
     letter(digit(x));
 }
 
+// A byte that went over the wire, and the bit of its ninth frame.
+pub fn exchange(passed: u8, ninth: u8) {
+    byte(passed);
+    letter(b':');
+    bit(ninth);
+}
+
 // A mask's eight bytes, number 7 first.
 pub fn mask(m: u64) {
     let mut k: u8 = 8;

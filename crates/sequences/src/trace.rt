@@ -1,11 +1,14 @@
 // Document 01, "The trace program": its example, to the letter.
+ghost use Prim.Native.Nat.{_≤_};
 use crate::device;
+use crate::device::Part;
 use crate::text;
 use crate::wire;
-ghost use Prim.Native.Nat.{_≤_};
 use chip::Device;
 use chip::Event;
 use chip::Stage;
+
+const EVENTS: usize = 10;
 
 const NULL_ANSWER: u8 = 0x02;
 
@@ -43,54 +46,62 @@ fn answer(d: Device, letter: u8) -> u8 {
     (letter % 2) & t.level
 }
 
-fn one_if_refused(answer: u8) -> u64
+fn one_if_refused(found: u8) -> u64
     ensures { λ r. ⌜ r ≤ 1 ⌝ }
 {
-    if answer == NOT_CARRIED_OUT {
+    if found == NOT_CARRIED_OUT {
         return 1;
     }
     0
 }
 
-fn refused(loaded: Device, letters: &[u8]) -> u64 {
-    let mut d = loaded;
+fn answers(letters: [u8; EVENTS]) -> [u8; EVENTS] {
+    let mut d = device::new(Part::At21cs11);
+    let mut found = [0; EVENTS];
+    let mut i = 0;
+    while i < EVENTS {
+        found[i] = answer(d, letters[i]);
+        d = wire::after(d, event(letters[i]));
+        i += 1;
+    }
+    found
+}
+
+fn refused(found: [u8; EVENTS]) -> u64 {
     let mut n: u64 = 0;
     let mut i = 0;
-    while i < letters.len() {
-        n += one_if_refused(answer(d, letters[i]));
-        d = wire::after(d, event(letters[i]));
+    while i < EVENTS {
+        n += one_if_refused(found[i]);
         i += 1;
     }
     n
 }
 
-fn line(index: u64, letter: u8, answer: u8) {
-    let words = [b' ', letter, b' '];
+fn line(index: u64, letter: u8, found: u8) {
     text::decimal(index);
-    text::write(&words);
-    text::byte(answer);
-    text::write(b"\n");
+    text::letter(b' ');
+    text::letter(letter);
+    text::letter(b' ');
+    text::byte(found);
+    text::letter(b'\n');
 }
 
-fn lines(loaded: Device, letters: &[u8]) {
-    let mut d = loaded;
+fn lines(letters: [u8; EVENTS], found: [u8; EVENTS]) {
     let mut i = 0;
-    while i < letters.len() {
-        line(i as u64, letters[i], answer(d, letters[i]));
-        d = wire::after(d, event(letters[i]));
+    while i < EVENTS {
+        line(i as u64, letters[i], found[i]);
         i += 1;
     }
 }
 
-fn trace(d: Device, letters: &[u8]) {
-    text::write(b"events ");
-    text::decimal(letters.len() as u64);
-    text::write(b" refused ");
-    text::decimal(refused(d, letters));
-    text::write(b"\n");
-    lines(d, letters);
-}
-
+// One AT21CS11 at address 0.
 pub fn example() {
-    trace(device::at21cs11(), b"N101000001");
+    let letters = *b"N101000001";
+    let found = answers(letters);
+    text::write(b"events ");
+    text::decimal(EVENTS as u64);
+    text::write(b" refused ");
+    text::decimal(refused(found));
+    text::letter(b'\n');
+    lines(letters, found);
 }

@@ -1,13 +1,10 @@
 // 003, sections 4 and 6.1 to 6.3: device address, byte write, page write, and the device during a cycle.
 use crate::bench;
-use crate::device;
-use crate::text;
-use chip::Device;
-use chip::Region;
+use crate::device::Part;
 
 fn byte_write() {
     bench::plays(
-        device::at21cs01(),
+        Part::At21cs01,
         b"
 Writing
 4 device address, another slave's, no opcode: N A0 N A2 N 90
@@ -21,7 +18,7 @@ Writing
 // The last four of twelve bytes replace the first four of the page; the next page is untouched.
 fn page_write() {
     bench::plays(
-        device::at21cs01(),
+        Part::At21cs01,
         b"6.3 page write of twelve bytes: N A0 40 01 02 03 04 05 06 07 08 09 0A 0B 0C W
 6.3 the pointer is inside the page: N A1 -
 6.3 the page and two cells of the next: N A0 40 N A1 + + + + + + + + + -
@@ -32,26 +29,13 @@ fn page_write() {
     );
 }
 
-// The one place that looks at what is stored and not at the wire.
-fn stored(d: Device, address: u8) {
-    text::write(b"6.1 stored meanwhile: cell ");
-    text::byte(address);
-    text::write(b" holds ");
-    text::byte(d.cell(Region::Main, address));
-    text::write(b"\n");
-}
-
 fn during_a_cycle() {
-    let d = bench::plays(
-        device::at21cs01(),
+    bench::plays(
+        Part::At21cs01,
         b"6.1 a cycle runs: N A0 30 5A N
 6.1 frames, a Null and a Reset meanwhile: A0 31 77 N A0 R
-",
-    );
-    stored(d, 0x30);
-    bench::plays(
-        d,
-        b"6.1 after the Wait: W A0 30 N A1 + -
+6.1 stored meanwhile, and after the Wait: ?30 W ?30
+6.1 cells 30h and 31h: A0 30 N A1 + -
 ",
     );
 }

@@ -10,8 +10,8 @@ Inv-loop bytes n d₀ k₀ d k = Unit {0}
 abbrev μ-loop : tie.MeasureT-loop
 μ-loop bytes n d₀ k₀ d k = n - k
 
-at21cs01-requires : tie.Need-at21cs01-requires Inv-loop μ-loop
-at21cs01-requires c κs = search needs
+new-requires : tie.Need-new-requires Inv-loop μ-loop
+new-requires c κs = search needs
 
 started-requires : tie.Need-started-requires Inv-loop μ-loop
 started-requires c κs = search needs
@@ -46,7 +46,7 @@ left-after-spec =
     (tie.spec
     Inv-loop
     μ-loop
-    at21cs01-requires
+    new-requires
     started-requires
     loop-holds
     frame-requires

@@ -5,10 +5,10 @@ use Rattle.sequences.proofs.abandoned.tries.Statement.{statement}
 use Rattle.sequences.proofs.abandoned.tries.Tie as tie
 
 abbrev Inv-loop : tie.InvT-loop
-Inv-loop words sign bytes n₀ t5 n = n ≤ 37
+Inv-loop words sign bytes n₀ n = n ≤ 37
 
 abbrev μ-loop : tie.MeasureT-loop
-μ-loop words sign bytes n₀ t5 n = 37 - n
+μ-loop words sign bytes n₀ n = 37 - n
 
 write-requires : tie.Need-write-requires Inv-loop μ-loop
 write-requires c κs = search needs
@@ -31,11 +31,8 @@ loop-less c = search needs
 loop-again : tie.Need-loop-again Inv-loop μ-loop
 loop-again c = search needs
 
-slice-aggregate-write : tie.Need-slice-aggregate-write Inv-loop μ-loop
-slice-aggregate-write c = search needs
-
-write-requires-2 : tie.Need-write-requires-2 Inv-loop μ-loop
-write-requires-2 c κs = search needs
+letter-requires : tie.Need-letter-requires Inv-loop μ-loop
+letter-requires c κs = search needs
 
 returns : tie.Need-returns Inv-loop μ-loop
 returns c = search needs
@@ -53,6 +50,5 @@ tries-spec =
     add-n
     loop-less
     loop-again
-    slice-aggregate-write
-    write-requires-2
+    letter-requires
     returns)

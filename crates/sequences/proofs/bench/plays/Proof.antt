@@ -11,6 +11,9 @@ Inv-loop letters d₀ m₀ i₀ d m i = i ≤ length letters
 abbrev μ-loop : tie.MeasureT-loop
 μ-loop letters d₀ m₀ i₀ d m i = length letters - i
 
+new-requires : tie.Need-new-requires Inv-loop μ-loop
+new-requires c κs = search needs
+
 loop-holds : tie.Need-loop-holds Inv-loop μ-loop
 loop-holds c = search needs
 
@@ -47,6 +50,7 @@ plays-spec =
     (tie.spec
     Inv-loop
     μ-loop
+    new-requires
     loop-holds
     shared-slice-read-act-at
     act-at-requires

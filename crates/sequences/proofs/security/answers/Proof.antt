@@ -5,10 +5,10 @@ use Rattle.sequences.proofs.security.answers.Statement.{statement}
 use Rattle.sequences.proofs.security.answers.Tie as tie
 
 abbrev Inv-loop : tie.InvT-loop
-Inv-loop address₀ t3 address = address ≤ 32
+Inv-loop address₀ address = address ≤ 32
 
 abbrev μ-loop : tie.MeasureT-loop
-μ-loop address₀ t3 address = 32 - address
+μ-loop address₀ address = 32 - address
 
 slice-aggregate-write : tie.Need-slice-aggregate-write Inv-loop μ-loop
 slice-aggregate-write c = search needs
@@ -34,11 +34,8 @@ loop-less c = search needs
 loop-again : tie.Need-loop-again Inv-loop μ-loop
 loop-again c = search needs
 
-slice-aggregate-write-2 : tie.Need-slice-aggregate-write-2 Inv-loop μ-loop
-slice-aggregate-write-2 c = search needs
-
-write-requires-2 : tie.Need-write-requires-2 Inv-loop μ-loop
-write-requires-2 c κs = search needs
+letter-requires : tie.Need-letter-requires Inv-loop μ-loop
+letter-requires c κs = search needs
 
 returns : tie.Need-returns Inv-loop μ-loop
 returns c = search needs
@@ -57,6 +54,5 @@ answers-spec =
     add-address
     loop-less
     loop-again
-    slice-aggregate-write-2
-    write-requires-2
+    letter-requires
     returns)

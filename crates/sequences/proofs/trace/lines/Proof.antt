@@ -1,39 +1,26 @@
--- `trace::lines` is safe and ends: the measure is the letters that are left.
+-- `trace::lines` is safe and ends: the measure is the events that are left.
 use borrow.Author.Needs.{needs}
 use Prim.Native.Nat.{_≤_, _-_}
-use lib.ListN.{length}
 use Rattle.sequences.proofs.trace.lines.Statement.{statement}
 use Rattle.sequences.proofs.trace.lines.Tie as tie
 
 abbrev Inv-loop : tie.InvT-loop
-Inv-loop letters d₀ i₀ d i = i ≤ length letters
+Inv-loop letters found i₀ i = i ≤ 10
 
 abbrev μ-loop : tie.MeasureT-loop
-μ-loop letters d₀ i₀ d i = length letters - i
+μ-loop letters found i₀ i = 10 - i
 
 loop-holds : tie.Need-loop-holds Inv-loop μ-loop
 loop-holds c = search needs
 
-shared-slice-read-line : tie.Need-shared-slice-read-line Inv-loop μ-loop
-shared-slice-read-line c = search needs
+array-read-line : tie.Need-array-read-line Inv-loop μ-loop
+array-read-line c = search needs
 
-shared-slice-read-answer : tie.Need-shared-slice-read-answer Inv-loop μ-loop
-shared-slice-read-answer c = search needs
-
-answer-requires : tie.Need-answer-requires Inv-loop μ-loop
-answer-requires c κs = search needs
+array-read-line-2 : tie.Need-array-read-line-2 Inv-loop μ-loop
+array-read-line-2 c = search needs
 
 line-requires : tie.Need-line-requires Inv-loop μ-loop
 line-requires c κs = search needs
-
-shared-slice-read-event : tie.Need-shared-slice-read-event Inv-loop μ-loop
-shared-slice-read-event c = search needs
-
-event-requires : tie.Need-event-requires Inv-loop μ-loop
-event-requires c κs = search needs
-
-after-requires : tie.Need-after-requires Inv-loop μ-loop
-after-requires c κs = search needs
 
 add-i : tie.Need-add-i Inv-loop μ-loop
 add-i c = search needs
@@ -54,13 +41,9 @@ lines-spec =
     Inv-loop
     μ-loop
     loop-holds
-    shared-slice-read-line
-    shared-slice-read-answer
-    answer-requires
+    array-read-line
+    array-read-line-2
     line-requires
-    shared-slice-read-event
-    event-requires
-    after-requires
     add-i
     loop-less
     loop-again

@@ -1,39 +1,26 @@
--- `trace::refused` is safe and ends: the count is at most the letters passed, so it does not wrap.
+-- `trace::refused` is safe and ends: the count is at most the events passed, so it does not wrap.
 use borrow.Author.Needs.{needs}
 use Prim.Native.Nat.{_≤_, _-_}
-use lib.ListN.{length}
 use Rattle.sequences.proofs.trace.refused.Statement.{statement}
 use Rattle.sequences.proofs.trace.refused.Tie as tie
 
 abbrev Inv-loop : tie.InvT-loop
-Inv-loop letters d₀ n₀ i₀ d n i = (i ≤ length letters) × (n ≤ i)
+Inv-loop found n₀ i₀ n i = (i ≤ 10) × (n ≤ i)
 
 abbrev μ-loop : tie.MeasureT-loop
-μ-loop letters d₀ n₀ i₀ d n i = length letters - i
+μ-loop found n₀ i₀ n i = 10 - i
 
 loop-holds : tie.Need-loop-holds Inv-loop μ-loop
 loop-holds c = search needs
 
-shared-slice-read-answer : tie.Need-shared-slice-read-answer Inv-loop μ-loop
-shared-slice-read-answer c = search needs
-
-answer-requires : tie.Need-answer-requires Inv-loop μ-loop
-answer-requires c κs = search needs
+array-read-one-if-refused : tie.Need-array-read-one-if-refused Inv-loop μ-loop
+array-read-one-if-refused c = search needs
 
 one-if-refused-requires : tie.Need-one-if-refused-requires Inv-loop μ-loop
 one-if-refused-requires c κs = search needs
 
 add-n : tie.Need-add-n Inv-loop μ-loop
 add-n c = search needs
-
-shared-slice-read-event : tie.Need-shared-slice-read-event Inv-loop μ-loop
-shared-slice-read-event c = search needs
-
-event-requires : tie.Need-event-requires Inv-loop μ-loop
-event-requires c κs = search needs
-
-after-requires : tie.Need-after-requires Inv-loop μ-loop
-after-requires c κs = search needs
 
 add-i : tie.Need-add-i Inv-loop μ-loop
 add-i c = search needs
@@ -54,13 +41,9 @@ refused-spec =
     Inv-loop
     μ-loop
     loop-holds
-    shared-slice-read-answer
-    answer-requires
+    array-read-one-if-refused
     one-if-refused-requires
     add-n
-    shared-slice-read-event
-    event-requires
-    after-requires
     add-i
     loop-less
     loop-again
