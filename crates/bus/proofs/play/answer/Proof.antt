@@ -1,0 +1,16 @@
+-- `bus::play::answer`: each return is its case of the definition, by the tests and calls that lead to it.
+use borrow.Author.Needs.{needs}
+use Rattle.bus.proofs.play.answer.Statement.{statement}
+use Rattle.bus.proofs.play.answer.Tie as tie
+
+returns : tie.Need-returns
+returns c = search needs
+
+replied-requires : tie.Need-replied-requires
+replied-requires c κs = search needs
+
+returns-2 : tie.Need-returns-2
+returns-2 c = simp (c .replied .ensures, c .before .if1 .left)
+
+pub answer-spec : {M : Type 1} → statement M
+answer-spec = tie.close (tie.spec returns replied-requires returns-2)
