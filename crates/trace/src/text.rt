@@ -13,14 +13,20 @@ fn put(out: &mut [u8], at: usize, b: u8) -> usize {
     at
 }
 
+// A byte of a list, 0 past its end.
+fn byte_at(l: &[u8], i: usize) -> u8 {
+    if i < l.len() {
+        return l[i];
+    }
+    0
+}
+
 // The first n bytes of a list.
 fn put_all(out: &mut [u8], at: usize, from: &[u8], n: usize) -> usize {
     let mut to = at;
     let mut i: usize = 0;
     while i < n {
-        if i < from.len() {
-            to = put(out, to, from[i]);
-        }
+        to = put(out, to, byte_at(from, i));
         i += 1;
     }
     to
@@ -42,7 +48,10 @@ fn hex_digit(d: u8) -> u8 {
     if d < 10 {
         return b'0' + d;
     }
-    b'A' + (d % 16 - 10)
+    if d < 16 {
+        return b'A' + (d - 10);
+    }
+    b'?'
 }
 
 fn letter(ev: Event) -> u8 {
@@ -53,13 +62,6 @@ fn letter(ev: Event) -> u8 {
         Event::Reset => b'R',
         Event::Cut(_) => b'C',
     }
-}
-
-fn byte_at(l: &[u8], i: usize) -> u8 {
-    if i < l.len() {
-        return l[i];
-    }
-    0
 }
 
 // The place of the next event; it stays at the end.
@@ -102,7 +104,8 @@ fn event_lines(out: &mut [u8], from: usize, tape: &[u8], answers: &[u8], events:
     let mut i: usize = 0;
     while i < events {
         let read = tape::event_at(tape, at);
-        to = event_line(out, to, i, read.event, byte_at(answers, i));
+        let ev = read.event;
+        to = event_line(out, to, i, ev, byte_at(answers, i));
         at = after(tape, at, read.size);
         i += 1;
     }

@@ -1,3 +1,4 @@
+use mathlib.Core.Path.{_∙_, refl, sym}
 use borrow.Author.Needs.{needs}
 use Rattle.borewizard.proofs.borewizard_run.Statement.{statement}
 use Rattle.borewizard.proofs.borewizard_run.Tie as tie
@@ -31,7 +32,9 @@ same-length-2 c = search needs
 
 -- src/lib.rt:9:1
 returns : tie.Need-returns
-returns c = ?
+returns c =
+    let r = c .before .before .before .before .before .before .before .run .ensures in
+    rw (sym (r .0) ∙ c .before .n .given .1) (refl, (r .1 .0, (r .1 .1, (refl, refl))))
 
 -- src/lib.rt:9:1
 same-length-3 : tie.Need-same-length-3
@@ -43,7 +46,9 @@ same-length-4 c = search needs
 
 -- src/lib.rt:9:1
 returns-2 : tie.Need-returns-2
-returns-2 c = ?
+returns-2 c =
+    let r = c .before .before .before .before .before .before .before .before .run .ensures in
+    rw (sym (r .0) ∙ c .before .before .f .given .1) (refl, (r .1 .0, (r .1 .1, (refl, refl))))
 
 pub borewizard-run-spec : {M : Type 1} → statement M
 borewizard-run-spec =

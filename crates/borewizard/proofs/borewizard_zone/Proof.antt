@@ -1,3 +1,5 @@
+use mathlib.Core.Path.{ap}
+use Rattle.faults.specs.declared.Fault.{Fault}
 use borrow.Author.Needs.{needs}
 use Rattle.borewizard.proofs.borewizard_zone.Statement.{statement}
 use Rattle.borewizard.proofs.borewizard_zone.Tie as tie
@@ -20,7 +22,7 @@ cast-result c = search needs
 
 -- src/lib.rt:31:1
 returns : tie.Need-returns
-returns c = ?
+returns c = (ap (λ (f : Fault). f .number) (c .before .view-fault .ensures), c .before .before .view-at .ensures)
 
 pub borewizard-zone-spec : {M : Type 1} → statement M
 borewizard-zone-spec =
