@@ -7,7 +7,13 @@ ghost use Rattle.image.specs.View.{viewFault, viewAt};
 use bus::Ran;
 
 #[no_mangle]
-pub extern "C" fn borewizard_run(bus: &mut [u8], events: &[u8], answers: &mut [u8], count: &mut usize, refused: &mut usize) -> u32
+pub extern "C" fn borewizard_run(
+    bus: &mut [u8],
+    events: &[u8],
+    answers: &mut [u8],
+    count: &mut usize,
+    refused: &mut usize,
+) -> u32
     ensures { λ r. ⌜ r ≡ numberOf (ranOf (now (bus .entry)) (now (events .entry)) (length (now (answers .entry)))) ⌝ }
     ensures { λ r. ⌜ now (bus .exit) ≡ busAfter (now (bus .entry)) (now (events .entry)) (length (now (answers .entry))) ⌝ }
     ensures { λ r. ⌜ now (answers .exit) ≡ answersAfter (now (bus .entry)) (now (events .entry)) (now (answers .entry)) ⌝ }

@@ -18,6 +18,8 @@ use Rattle.image.proofs.Promised.{promised}
 use Rattle.image.specs.Scan.{busFault}
 use Rattle.image.specs.Image.{devicesOf, savedOf, loadedOf}
 use Rattle.bus.specs.declared.Ran.the-variants.{Done, Refused}
+use Rattle.bus.specs.Read.{busRead}
+use Rattle.bus.proofs.Reading.{run-read}
 use Rattle.bus.specs.Run.{runFault, ranOf, busAfter, answersAfter}
 
 module _ (bus tape answers : List ℕ) where
@@ -38,20 +40,20 @@ module _ (bus tape answers : List ℕ) where
   fault-none b t h = after-clean (busFault bus) _ b ∙ after-clean (tapeFault tape) _ t ∙ rw (le-ltb (length answers) (length (eventsOf tape)) h) refl
 
   pub refused : (f : Fault) → runFault bus tape (length answers) ≡ f → (f .number ≡ 0 → ⊥)
-      → (Refused f ≡ ranOf bus tape (length answers)) × ((bus ≡ busAfter bus tape (length answers)) × (answers ≡ answersAfter bus tape answers))
-  unfolding ranOf busAfter answersAfter
-  refused f e n = rw (e, ne-eqb (f .number) 0 n) (refl, (refl, refl))
+      → (Refused f ≡ ranOf bus tape (length answers)) × ((bus ≡ busAfter bus tape (length answers)) × ((answers ≡ answersAfter bus tape answers) × (bus ≡ busRead bus tape (length answers))))
+  unfolding ranOf busAfter answersAfter busRead
+  refused f e n = rw (e, ne-eqb (f .number) 0 n) (refl, (refl, (refl, refl)))
 
   pub refused-bus : (busFault bus .number ≡ 0 → ⊥)
-      → (Refused (busFault bus) ≡ ranOf bus tape (length answers)) × ((bus ≡ busAfter bus tape (length answers)) × (answers ≡ answersAfter bus tape answers))
+      → (Refused (busFault bus) ≡ ranOf bus tape (length answers)) × ((bus ≡ busAfter bus tape (length answers)) × ((answers ≡ answersAfter bus tape answers) × (bus ≡ busRead bus tape (length answers))))
   refused-bus f = refused (busFault bus) (fault-bus f) f
 
   pub refused-tape : busFault bus .number ≡ 0 → (tapeFault tape .number ≡ 0 → ⊥)
-      → (Refused (tapeFault tape) ≡ ranOf bus tape (length answers)) × ((bus ≡ busAfter bus tape (length answers)) × (answers ≡ answersAfter bus tape answers))
+      → (Refused (tapeFault tape) ≡ ranOf bus tape (length answers)) × ((bus ≡ busAfter bus tape (length answers)) × ((answers ≡ answersAfter bus tape answers) × (bus ≡ busRead bus tape (length answers))))
   refused-tape b f = refused (tapeFault tape) (fault-tape b f) f
 
   pub refused-room : busFault bus .number ≡ 0 → tapeFault tape .number ≡ 0 → length answers < length (eventsOf tape)
-      → (Refused (fault 11 0) ≡ ranOf bus tape (length answers)) × ((bus ≡ busAfter bus tape (length answers)) × (answers ≡ answersAfter bus tape answers))
+      → (Refused (fault 11 0) ≡ ranOf bus tape (length answers)) × ((bus ≡ busAfter bus tape (length answers)) × ((answers ≡ answersAfter bus tape answers) × (bus ≡ busRead bus tape (length answers))))
   refused-room b t h = refused (fault 11 0) (fault-room b t h) (λ e. eqb-no e)
     where
       eqb-no : _≡_ {A = ℕ} 11 0 → ⊥
@@ -59,9 +61,9 @@ module _ (bus tape answers : List ℕ) where
 
   pub done : busFault bus .number ≡ 0 → tapeFault tape .number ≡ 0 → length (eventsOf tape) ≤ length answers
       → (Done (length (eventsOf tape)) (refusedOf (devicesOf bus) (eventsOf tape)) ≡ ranOf bus tape (length answers))
-      × ((savedOf (lastOf (devicesOf bus) (eventsOf tape)) ≡ busAfter bus tape (length answers)) × (sets answers 0 (answersOf (devicesOf bus) (eventsOf tape)) ≡ answersAfter bus tape answers))
+      × ((savedOf (lastOf (devicesOf bus) (eventsOf tape)) ≡ busAfter bus tape (length answers)) × ((sets answers 0 (answersOf (devicesOf bus) (eventsOf tape)) ≡ answersAfter bus tape answers) × (savedOf (lastOf (devicesOf bus) (eventsOf tape)) ≡ busRead bus tape (length answers))))
   unfolding ranOf busAfter answersAfter
-  done b t h = rw (fault-none b t h) (refl, (refl, refl))
+  done b t h = let r = run-read bus tape (length answers) in rw (fault-none b t h) (refl, (refl, (refl, rw (fault-none b t h) at r)))
 
 -- ---- what a load and a scan tell
 pub load-fault : (bus : List ℕ) (l : Loaded) → l ≡ loadedOf bus → l .fault ≡ busFault bus

@@ -6,6 +6,7 @@ mod talk;
 ghost use mathlib.Core.Path.{_≡_};
 ghost use Prim.Native.Nat.{ℕ};
 ghost use lib.ListN.{length};
+ghost use Rattle.bus.specs.Read.{busRead};
 ghost use Rattle.bus.specs.Run.{ranOf, busAfter, answersAfter};
 use faults::Fault;
 
@@ -26,6 +27,7 @@ pub fn run(bus: &mut [u8], tape: &[u8], answers: &mut [u8]) -> Ran
     ensures { λ r. ⌜ r ≡ ranOf (now (bus .entry)) (now (tape .entry)) (length (now (answers .entry))) ⌝ }
     ensures { λ r. ⌜ now (bus .exit) ≡ busAfter (now (bus .entry)) (now (tape .entry)) (length (now (answers .entry))) ⌝ }
     ensures { λ r. ⌜ now (answers .exit) ≡ answersAfter (now (bus .entry)) (now (tape .entry)) (now (answers .entry)) ⌝ }
+    ensures reading { λ r. ⌜ now (bus .exit) ≡ busRead (now (bus .entry)) (now (tape .entry)) (length (now (answers .entry))) ⌝ }
 {
     let loaded = image::load(bus);
     let f = loaded.fault;

@@ -3,6 +3,7 @@ mod text;
 
 // One byte more than document 01 allows, so that a longer file is seen to be longer and refused by its number.
 const BUS_ROOM: usize = 1345;
+
 const TAPE_ROOM: usize = 49153;
 // An event has at least three bytes.
 const ANSWER_ROOM: usize = 16384;
@@ -30,6 +31,13 @@ fn main() {
     let mut lines = [0u8; TEXT_ROOM];
     let bus_len = read_file(b"bus.img", &mut bus_room);
     let tape_len = read_file(b"events.trc", &mut tape_room);
-    let n = text::traced(&mut bus_room, bus_len, &tape_room, tape_len, &mut answers, &mut lines);
+    let n = text::traced(
+        &mut bus_room,
+        bus_len,
+        &tape_room,
+        tape_len,
+        &mut answers,
+        &mut lines,
+    );
     text::show(&lines, n);
 }

@@ -113,7 +113,14 @@ fn event_lines(out: &mut [u8], from: usize, tape: &[u8], answers: &[u8], events:
 }
 
 // The text of a run over the first bytes of two rooms, and its length.
-pub fn traced(bus: &mut [u8], bus_len: usize, tape: &[u8], tape_len: usize, answers: &mut [u8], out: &mut [u8]) -> usize {
+pub fn traced(
+    bus: &mut [u8],
+    bus_len: usize,
+    tape: &[u8],
+    tape_len: usize,
+    answers: &mut [u8],
+    out: &mut [u8],
+) -> usize {
     if bus.len() < bus_len {
         return 0;
     }

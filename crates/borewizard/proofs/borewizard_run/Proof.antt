@@ -34,7 +34,7 @@ same-length-2 c = search needs
 returns : tie.Need-returns
 returns c =
     let r = c .before .before .before .before .before .before .before .run .ensures in
-    rw (sym (r .0) ∙ c .before .n .given .1) (refl, (r .1 .0, (r .1 .1, (refl, refl))))
+    rw (sym (r .0) ∙ c .before .n .given .1) (refl, (r .1 .0, (r .1 .1 .0, (refl, refl))))
 
 -- src/lib.rt:9:1
 same-length-3 : tie.Need-same-length-3
@@ -48,7 +48,7 @@ same-length-4 c = search needs
 returns-2 : tie.Need-returns-2
 returns-2 c =
     let r = c .before .before .before .before .before .before .before .before .run .ensures in
-    rw (sym (r .0) ∙ c .before .before .f .given .1) (refl, (r .1 .0, (r .1 .1, (refl, refl))))
+    rw (sym (r .0) ∙ c .before .before .f .given .1) (refl, (r .1 .0, (r .1 .1 .0, (refl, refl))))
 
 pub borewizard-run-spec : {M : Type 1} → statement M
 borewizard-run-spec =

@@ -71,7 +71,7 @@ returns-4 c =
     let n = scan-count (a .tape .now) _ (c .before .before .before .before .before .before .before .before .before .before .before .before .scan-tape .ensures) sound in
     let p = c .before .before .before .before .play .ensures in
     let d = done (a .bus .now) (a .tape .now) (a .answers .now) clean sound (rw n at (c .before .before .before .before .before .before .before .before .if3 .left)) in
-    (rw (n, p .0) (d .0), (p .1 .0 ∙ d .1 .0, p .1 .1 ∙ d .1 .1))
+    (rw (n, p .0) (d .0), (p .1 .0 ∙ d .1 .0, (p .1 .1 ∙ d .1 .1 .0, p .1 .0 ∙ d .1 .1 .1)))
 
 pub run-spec : {M : Type 1} → statement M
 run-spec =
