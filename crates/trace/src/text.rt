@@ -21,12 +21,12 @@ fn byte_at(l: &[u8], i: usize) -> u8 {
     0
 }
 
-// The first n bytes of a list.
-fn put_all(out: &mut [u8], at: usize, from: &[u8], n: usize) -> usize {
+// The bytes of a list.
+fn put_all(out: &mut [u8], at: usize, from: &[u8]) -> usize {
     let mut to = at;
     let mut i: usize = 0;
-    while i < n {
-        to = put(out, to, byte_at(from, i));
+    while i < from.len() {
+        to = put(out, to, from[i]);
         i += 1;
     }
     to
@@ -35,7 +35,7 @@ fn put_all(out: &mut [u8], at: usize, from: &[u8], n: usize) -> usize {
 fn put_decimal(out: &mut [u8], at: usize, n: usize) -> usize {
     let mut digits = [0u8; 20];
     let k = io::decimal(n as u64, &mut digits);
-    put_all(out, at, &digits, k)
+    put_all(out, at, &digits[..k])
 }
 
 // Two hex digits, as document 01's example has them.
@@ -66,25 +66,25 @@ fn letter(ev: Event) -> u8 {
 
 // The place of the next event; it stays at the end.
 fn after(tape: &[u8], at: usize, size: usize) -> usize {
-    if at < tape.len() {
-        if size <= tape.len() - at {
-            return at + size;
-        }
+    if tape.len() <= at {
         return at;
     }
-    at
+    if tape.len() - at < size {
+        return at;
+    }
+    at + size
 }
 
 fn refused_line(out: &mut [u8], number: u8) -> usize {
-    let to = put_all(out, 0, b"refused ", 8);
+    let to = put_all(out, 0, b"refused ");
     let end = put_decimal(out, to, number as usize);
     put(out, end, b'\n')
 }
 
 fn header(out: &mut [u8], events: usize, refused: usize) -> usize {
-    let a = put_all(out, 0, b"events ", 7);
+    let a = put_all(out, 0, b"events ");
     let b = put_decimal(out, a, events);
-    let c = put_all(out, b, b" refused ", 9);
+    let c = put_all(out, b, b" refused ");
     let d = put_decimal(out, c, refused);
     put(out, d, b'\n')
 }
@@ -112,27 +112,13 @@ fn event_lines(out: &mut [u8], from: usize, tape: &[u8], answers: &[u8], events:
     to
 }
 
-// The text of a run over the first bytes of two rooms, and its length.
-pub fn traced(
-    bus: &mut [u8],
-    bus_len: usize,
-    tape: &[u8],
-    tape_len: usize,
-    answers: &mut [u8],
-    out: &mut [u8],
-) -> usize {
-    if bus.len() < bus_len {
-        return 0;
-    }
-    if tape.len() < tape_len {
-        return 0;
-    }
-    let events = &tape[0..tape_len];
-    match bus::run(&mut bus[0..bus_len], events, answers) {
+// The text of a run, and its length.
+pub fn traced(bus: &mut [u8], tape: &[u8], answers: &mut [u8], out: &mut [u8]) -> usize {
+    match bus::run(bus, tape, answers) {
         Ran::Refused(f) => refused_line(out, f.number),
         Ran::Done(n, refused) => {
             let to = header(out, n, refused);
-            event_lines(out, to, events, answers, n)
+            event_lines(out, to, tape, answers, n)
         }
     }
 }

@@ -1,57 +1,46 @@
+-- `trace::text::event_lines`: each turn keeps the length of the room, and there are as many turns as events.
+use borrow.Author.Needs.{needs}
+use Prim.Native.Nat.{_≤_, _-_}
+use mathlib.Core.Path.{_≡_}
+use lib.ListN.{length}
 use Rattle.trace.proofs.text.event_lines.Statement.{statement}
 use Rattle.trace.proofs.text.event_lines.Tie as tie
-use Rattle.trace.proofs.text.event_lines.Reads as reads
-use Rattle.trace.proofs.text.event_lines.Lts as lts
-use Rattle.tape.proofs.event_at.Reads as event-at-reads
-use Rattle.trace.proofs.text.after.Reads as after-reads
-use Rattle.trace.proofs.text.byte_at.Reads as byte-at-reads
-use Rattle.trace.proofs.text.event_line.Reads as event-line-reads
 
 abbrev Inv-loop : tie.InvT-loop
-Inv-loop out₀ from tape answers events to₀ at₀ i₀ out to at i = ?
+Inv-loop out₀ from tape answers events to₀ at₀ i₀ out to at i = (i ≤ events) × (length out ≡ length out₀)
 
 abbrev μ-loop : tie.MeasureT-loop
-μ-loop out₀ from tape answers events to₀ at₀ i₀ out to at i = ?
+μ-loop out₀ from tape answers events to₀ at₀ i₀ out to at i = events - i
 
--- src/text.rt:105:5
 loop-holds : tie.Need-loop-holds Inv-loop μ-loop
-loop-holds c = ?
+loop-holds c = search needs
 
--- src/text.rt:106:13
 event-at-requires : tie.Need-event-at-requires Inv-loop μ-loop
-event-at-requires c κs = ?
+event-at-requires c κs = search needs
 
--- src/text.rt:108:41
 byte-at-requires : tie.Need-byte-at-requires Inv-loop μ-loop
-byte-at-requires c κs = ?
+byte-at-requires c κs = search needs
 
--- src/text.rt:108:9
 event-line-requires : tie.Need-event-line-requires Inv-loop μ-loop
-event-line-requires c κs = ?
+event-line-requires c κs = search needs
 
--- src/text.rt:109:9
 after-requires : tie.Need-after-requires Inv-loop μ-loop
-after-requires c κs = ?
+after-requires c κs = search needs
 
--- src/text.rt:110:9
 add-i : tie.Need-add-i Inv-loop μ-loop
-add-i c = ?
+add-i c = search needs
 
--- src/text.rt:105:5
 loop-less : tie.Need-loop-less Inv-loop μ-loop
-loop-less c = ?
+loop-less c = search needs
 
--- src/text.rt:105:5
 loop-again : tie.Need-loop-again Inv-loop μ-loop
-loop-again c = ?
+loop-again c = search needs
 
--- src/text.rt:101:1
 same-length : tie.Need-same-length Inv-loop μ-loop
-same-length c = ?
+same-length c = search needs
 
--- src/text.rt:101:1
 returns : tie.Need-returns Inv-loop μ-loop
-returns c = ?
+returns c = search needs
 
 pub event-lines-spec : {M : Type 1} → statement M
 event-lines-spec =
