@@ -3,6 +3,7 @@ pub mod Copies
 pub mod Held
 pub mod Landing
 pub mod Passing
+pub mod Promised
 pub mod Reading
 pub mod Running
 pub mod Starting
