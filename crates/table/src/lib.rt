@@ -1,7 +1,7 @@
-// Whether a table of devices is well-formed. One device: its loaded fields (load.rt), its pointer, selector and counts (ranges.rt), the answered bytes that
-// its stage holds (held.rt). All devices: who talks (talk.rt).
+// Whether a table of devices is well-formed. Each device by itself (devices.rt): its loaded fields, the ranges of its pointer, selector and counts (ranges.rt),
+// the answered bytes that its stage holds (held.rt). All devices: who talks (talk.rt).
+mod devices;
 mod held;
-mod load;
 mod ranges;
 mod talk;
 
@@ -11,7 +11,7 @@ use chip::Device;
 use image::MOST_RECORDS;
 
 // What of a device's stage is counted.
-pub enum Count {
+enum Count {
     Past,
     Hearing,
     Started,
@@ -25,7 +25,7 @@ pub fn well_formed(devices: [Device; 8], count: usize) -> bool
     if MOST_RECORDS < count {
         return false;
     }
-    if load::good_devices(devices, count) {
+    if devices::good_devices(devices, count) {
         return talk::one_talks(devices, count);
     }
     false

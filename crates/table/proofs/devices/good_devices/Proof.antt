@@ -1,4 +1,4 @@
--- `table::load::good_devices`: the loop goes as its definition does, one turn a step.
+-- `table::devices::good_devices`: the loop goes as its definition does, one turn a step.
 use borrow.Author.Needs.{needs}
 use Prim.Native.Nat.{_≤_, _-_}
 use mathlib.Core.Path.{_≡_, refl, sym, _∙_}
@@ -9,8 +9,8 @@ use Rattle.faults.proofs.Lists.{mapped-length}
 use Rattle.image.specs.Layout.{mostRecords}
 use Rattle.table.proofs.Walk.{Checked, checked-more, checked-load, checked-device, checked-all}
 use Rattle.table.proofs.Well.{slave-few}
-use Rattle.table.proofs.load.good_devices.Statement.{statement}
-use Rattle.table.proofs.load.good_devices.Tie as tie
+use Rattle.table.proofs.devices.good_devices.Statement.{statement}
+use Rattle.table.proofs.devices.good_devices.Tie as tie
 
 abbrev Inv-loop : tie.InvT-loop
 Inv-loop count devices least₀ i₀ least i = (count ≤ mostRecords) × Checked devices count least i

@@ -1,9 +1,9 @@
--- `table::load::good_load`: each return is its case of the definition, by the tests and calls that lead to it.
+-- `table::devices::good_load`: each return is its case of the definition, by the tests and calls that lead to it.
 use Rattle.table.specs.WellFormed.{goodLoad}
 use borrow.Author.Tests.{le-leb, lt-leb}
 use borrow.Author.Needs.{needs}
-use Rattle.table.proofs.load.good_load.Statement.{statement}
-use Rattle.table.proofs.load.good_load.Tie as tie
+use Rattle.table.proofs.devices.good_load.Statement.{statement}
+use Rattle.table.proofs.devices.good_load.Tie as tie
 
 good-part-requires : tie.Need-good-part-requires
 good-part-requires c κs = search needs

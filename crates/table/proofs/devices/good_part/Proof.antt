@@ -1,7 +1,7 @@
--- `table::load::good_part`: each return is its case of the definition, by the tests and calls that lead to it.
+-- `table::devices::good_part`: each return is its case of the definition, by the tests and calls that lead to it.
 use borrow.Author.Tests.{eq-eqb, ne-eqb}
-use Rattle.table.proofs.load.good_part.Statement.{statement}
-use Rattle.table.proofs.load.good_part.Tie as tie
+use Rattle.table.proofs.devices.good_part.Statement.{statement}
+use Rattle.table.proofs.devices.good_part.Tie as tie
 
 returns : tie.Need-returns
 returns c = simp (eq-eqb _ _ (c .if1 .taken))

@@ -1,8 +1,8 @@
--- `table::load::good_device`: each return is its case of the definition, by the tests and calls that lead to it.
+-- `table::devices::good_device`: each return is its case of the definition, by the tests and calls that lead to it.
 use Rattle.table.specs.WellFormed.{goodDevice}
 use borrow.Author.Needs.{needs}
-use Rattle.table.proofs.load.good_device.Statement.{statement}
-use Rattle.table.proofs.load.good_device.Tie as tie
+use Rattle.table.proofs.devices.good_device.Statement.{statement}
+use Rattle.table.proofs.devices.good_device.Tie as tie
 
 good-pointer-requires : tie.Need-good-pointer-requires
 good-pointer-requires c κs = search needs
