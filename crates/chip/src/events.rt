@@ -119,10 +119,18 @@ impl Head {
     pub fn restarted(self) -> Head
         ensures { λ r. ⌜ r ≡ restarted self ⌝ }
     {
-        self.pointing(0)
-            .paced(Speed::High)
-            .choosing(Selector::Unset)
-            .at(Stage::Standby)
+        let speed = Speed::High;
+        let selector = Selector::Unset;
+        let stage = Stage::Standby;
+        Head {
+            part: self.part,
+            slave: self.slave,
+            flags: self.flags,
+            pointer: 0,
+            speed: speed,
+            selector: selector,
+            stage: stage,
+        }
     }
 
     pub fn reset(self) -> Framed
