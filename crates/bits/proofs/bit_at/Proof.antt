@@ -1,4 +1,4 @@
--- `bits::bit_at`: what it returns is the definition, by the contracts of what it calls.
+-- `bits::bit_at`: a shift and a mask of one bit are a quotient and a remainder, most significant first.
 use Prim.Native.Nat.{_-_, _/_, _%_, _^_}
 use lib.Bits.{and-mask}
 use borrow.Author.Needs.{needs}

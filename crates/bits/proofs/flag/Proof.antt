@@ -1,4 +1,4 @@
--- `bits::flag`: what it returns is the definition, by the contracts of what it calls.
+-- `bits::flag`: a shift and a mask of one bit are a quotient and a remainder.
 use Prim.Native.Nat.{ℕ, _/_, _%_, _^_}
 use lib.Bits.{and-mask}
 use lib.Dec.{eqb}

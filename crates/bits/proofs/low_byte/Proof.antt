@@ -1,4 +1,4 @@
--- `bits::low_byte`: what it returns is the definition, by the contracts of what it calls.
+-- `bits::low_byte`: a mask of eight ones is the remainder by 256, so the cast loses nothing.
 use native.Mathlib.Omega.{arith}
 use lib.Bits.{and-mask, mask-lt}
 use Rattle.bits.proofs.low_byte.Statement.{statement}

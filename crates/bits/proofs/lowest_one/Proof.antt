@@ -1,4 +1,4 @@
--- `bits::lowest_one`: what it returns is the definition, by the contracts of what it calls.
+-- `bits::lowest_one`: the trailing zeros are the lowest one, and at most eight fits a byte.
 use native.Mathlib.Omega.{arith}
 use lib.Count.{trailing-le}
 use borrow.Author.Needs.{needs}

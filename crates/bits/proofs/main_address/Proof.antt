@@ -1,4 +1,4 @@
--- `bits::main_address`: what it returns is the definition, by the contracts of what it calls.
+-- `bits::main_address`: a mask of seven ones is the remainder by 128.
 use lib.Bits.{and-mask}
 use Rattle.bits.proofs.main_address.Statement.{statement}
 use Rattle.bits.proofs.main_address.Tie as tie

@@ -1,4 +1,4 @@
--- `bits::mask_byte`: what it returns is the definition, by the contracts of what it calls.
+-- `bits::mask_byte`: eight bits a byte, so the shift is a multiple of eight below 64.
 use Rattle.bits.specs.Bytes.{maskByte}
 use borrow.Author.Needs.{needs}
 use Rattle.bits.proofs.mask_byte.Statement.{statement}

@@ -1,4 +1,4 @@
--- `bits::merge`: what it returns is the definition, by the contracts of what it calls.
+-- `bits::merge`: the two masked halves do not overlap, so their or is the mixture.
 use Prim.Native.Nat.{_-_}
 use native.Mathlib.Omega.{arith}
 use Rattle.bits.specs.Bytes.{merged}

@@ -1,4 +1,4 @@
--- `bits::reads`: what it returns is the definition, by the contracts of what it calls.
+-- `bits::reads`: a mask of one bit is the remainder by 2.
 use Prim.Native.Nat.{ℕ}
 use lib.Bits.{and-mask}
 use lib.Dec.{eqb}

@@ -1,4 +1,4 @@
--- `bits::security_address`: what it returns is the definition, by the contracts of what it calls.
+-- `bits::security_address`: a mask of five ones is the remainder by 32.
 use lib.Bits.{and-mask}
 use Rattle.bits.proofs.security_address.Statement.{statement}
 use Rattle.bits.proofs.security_address.Tie as tie

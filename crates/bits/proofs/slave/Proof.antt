@@ -1,4 +1,4 @@
--- `bits::slave`: what it returns is the definition, by the contracts of what it calls.
+-- `bits::slave`: a shift by one and a mask of three ones are a quotient and a remainder.
 use Prim.Native.Nat.{_/_}
 use lib.Bits.{and-mask}
 use Rattle.bits.proofs.slave.Statement.{statement}

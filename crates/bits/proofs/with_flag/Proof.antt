@@ -1,4 +1,4 @@
--- `bits::with_flag`: what it returns is the definition, by the contracts of what it calls.
+-- `bits::with_flag`: the shifted one stays in a byte, and an or with it sets that flag alone.
 use Prim.Native.Nat.{_*_, _%_, _^_}
 use native.Mathlib.Omega.{arith}
 use mathlib.Core.Path.{_≡_, _∙_}

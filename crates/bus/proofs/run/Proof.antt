@@ -1,4 +1,4 @@
--- `bus::run`: what it returns is the definition, by the contracts of what it calls.
+-- `bus::run`: the refusals in their order by what `load` and `scan_tape` say, and a good run by what `play` says.
 use mathlib.Core.Path.{_∙_}
 use Rattle.bus.proofs.Answers.{refused-bus, refused-tape, refused-room, done, load-fault, load-table, load-few, scan-fault, scan-count}
 use borrow.Author.Needs.{needs}

@@ -1,4 +1,4 @@
--- `chip::Device::take`: what it returns is the definition, by the contracts of what it calls.
+-- `chip::Device::take`: the head hears, the memory gives the level and takes the act: the definition's own three steps.
 use Rattle.chip.specs.Take.{takeOf}
 use borrow.Author.Needs.{needs}
 use Rattle.chip.proofs.Device.take.Statement.{statement}

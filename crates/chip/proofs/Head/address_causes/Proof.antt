@@ -1,4 +1,4 @@
--- `chip::Head::address_causes`: what it returns is the definition, by the contracts of what it calls.
+-- `chip::Head::address_causes`: the three parts of the device address byte, then `opens`.
 use borrow.Author.Needs.{needs}
 use Rattle.chip.proofs.Head.address_causes.Statement.{statement}
 use Rattle.chip.proofs.Head.address_causes.Tie as tie

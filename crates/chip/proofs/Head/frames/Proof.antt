@@ -1,4 +1,4 @@
--- `chip::Head::frames`: what it returns is the definition, by the contracts of what it calls.
+-- `chip::Head::frames`: the three parts of the answer, the head by `at`.
 use borrow.Author.Needs.{needs}
 use Rattle.chip.proofs.Head.frames.Statement.{statement}
 use Rattle.chip.proofs.Head.frames.Tie as tie

@@ -1,4 +1,4 @@
--- `table::ranges::good_pointer`: what it returns is the definition, by the contracts of what it calls.
+-- `table::ranges::good_pointer`: a pointer up to the highest of its stage, as `highest_pointer` gives it.
 use borrow.Author.Needs.{needs}
 use Rattle.table.proofs.ranges.good_pointer.Statement.{statement}
 use Rattle.table.proofs.ranges.good_pointer.Tie as tie
