@@ -1,5 +1,7 @@
 pub mod Answers
 pub mod Copies
+pub mod Frames
+pub mod Gliding
 pub mod Held
 pub mod Landing
 pub mod Passing

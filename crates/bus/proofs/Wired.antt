@@ -73,7 +73,7 @@ module _ {n : ℕ} {ds : List Device} {who : List ℕ} {talker : ℕ} {others : 
   own-stage j e = rw (e) (standing-own talker talker others (getD hs talker blankHead) refl)
 
   -- no cycle runs and a device talks: the others stand by
-  talks-alone : any ≡ false → talker < n → others ≡ Standby
+  pub talks-alone : any ≡ false → talker < n → others ≡ Standby
   talks-alone e h = w .alone h (ap (λ (g : Head). busy (g .stage)) (sym (own-stage talker refl)) ∙ calm e talker h)
 
   nobody : any ≡ false → ninthDue others ≡ true → talker < n → ⊥

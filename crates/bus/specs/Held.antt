@@ -1,6 +1,6 @@
 -- How a run holds the devices: heads in an array, gathered pages in another, the other bytes in the bus file itself. What its functions do to these; nothing of
 -- this is promised to a caller.
-use Prim.Native.Nat.{ℕ, _+_, _*_, _/_, _%_, _<_}
+use Prim.Native.Nat.{ℕ, _+_, _*_, _%_, _<_, _≤_}
 use mathlib.Core.Path.{_≡_}
 use mathlib.Core.Bool.{Bool, true, false}
 use mathlib.Core.List.{List, _++_}
@@ -24,10 +24,14 @@ use Rattle.chip.specs.declared.Act.the-variants.{Nothing, Put, Program}
 use Rattle.chip.specs.declared.Event.{Event}
 use Rattle.chip.specs.declared.Event.the-variants.{Bit, Null, Wait, Reset, Cut}
 use Rattle.chip.specs.Head.{at}
+use Rattle.chip.specs.Stages.{shows, sendingOf}
 use Rattle.chip.specs.Memory.{burntTo, pageBase}
-use Rattle.image.specs.Layout.{idAt, flagsAt, mainAt, mainSize, serialAt, userAt, userSize}
-use Rattle.wire.specs.Wire.{replied}
+use Rattle.tape.specs.Tape.{eventsOf}
+use Rattle.tape.specs.Promises.{NoFault}
+use Rattle.image.specs.Layout.{recordSize, idAt, flagsAt, mainAt, mainSize, serialAt, userAt, userSize}
+use Rattle.wire.specs.Wire.{pulled, replied}
 use Rattle.bus.specs.declared.Span.{Span}
+use Rattle.bus.specs.declared.Byte.{Byte}
 
 -- ---- who hears an event
 -- At most one device is past its device address; it talks, and every other device is in the one stage `others`: standby, or reading its device address. So a run
@@ -122,6 +126,77 @@ levelIn bus from Free = 1
 levelIn bus from Low = 0
 levelIn bus from (CellBit r p n) = bitAt (getD bus (from + cellAt r p) 0) n
 levelIn bus from (IdBit k n) = bitAt (getD bus (from + idAt + k % 3) 0) n
+
+-- ---- frames that only move a byte on
+-- A byte under way is how many of its bits came or went, and their value. The frames before its ninth change nothing else, but for the pointer after the eighth bit of
+-- a byte that is put out; so a run plays them together.
+abbrev pub byte : ℕ → ℕ → Byte
+byte n x = record { count = n; bits = x }
+
+-- the byte of a stage: standby takes any frame, a cycle none
+abbrev pub byteOf : Stage → Byte
+byteOf Standby = byte 0 0
+byteOf (Address n x) = byte n x
+byteOf (Place c n x) = byte n x
+byteOf (Data c t n x) = byte n x
+byteOf (Sending s n) = byte n 0
+byteOf (Programming c t) = byte 8 0
+
+-- the stage with another byte
+abbrev pub resumed : Stage → Byte → Stage
+resumed Standby b = Standby
+resumed (Address n x) b = Address (b .count) (b .bits)
+resumed (Place c n x) b = Place c (b .count) (b .bits)
+resumed (Data c t n x) b = Data c t (b .count) (b .bits)
+resumed (Sending s n) b = Sending s (b .count)
+resumed (Programming c t) b = Programming c t
+
+-- "after the eighth bit the pointer becomes one more"
+abbrev pub pointed : Head → Stage → ℕ → Head
+pointed h Standby k = h
+pointed h (Address n x) k = h
+pointed h (Place c n x) k = h
+pointed h (Data c t n x) k = h
+pointed h (Sending s n) k = pick (ltb n 8) (pick (eqb k 8) (sendingOf h s 7 0 .head) h) h
+pointed h (Programming c t) k = h
+
+abbrev pub glided : Head → Byte → Head
+glided h b = at (pointed h (h .stage) (b .count)) (resumed (h .stage) b)
+
+-- the byte whose bits a drive shows; all ones where the wire is left free
+unfoldable pub shownIn : List ℕ → ℕ → Drive → ℕ
+shownIn bus from Free = 255
+shownIn bus from Low = 0
+shownIn bus from (CellBit r p n) = getD bus (from + cellAt r p) 0
+shownIn bus from (IdBit k n) = getD bus (from + idAt + k % 3) 0
+
+-- what a stage puts out
+abbrev pub driven : Head → Stage → Drive
+driven h Standby = Free
+driven h (Address n x) = Free
+driven h (Place c n x) = Free
+driven h (Data c t n x) = Free
+driven h (Sending s n) = shows h s 0
+driven h (Programming c t) = Free
+
+-- no fault from byte `at` of the event file on, and room for the answers from i on
+pub record Room (tape : List ℕ) (at i room : ℕ) : Type 0 where
+  pub sound : NoFault at (drop at tape)
+  pub left : i + length (eventsOf (drop at tape)) ≤ room
+
+-- bit frames, one after the other: the place in the event file, the number of answers, the byte's bits, the answers
+pub data Frames (tape : List ℕ) (shown : ℕ) (at₀ i₀ n₀ x₀ : ℕ) (answers₀ : List ℕ) : ℕ → ℕ → ℕ → ℕ → List ℕ → Type 0 where
+  none : Frames tape shown at₀ i₀ n₀ x₀ answers₀ at₀ i₀ n₀ x₀ answers₀
+  more : {at i n x : ℕ} {answers : List ℕ} → Frames tape shown at₀ i₀ n₀ x₀ answers₀ at i n x answers → n < 8 → at + 3 ≤ length tape → getD tape (at + 2) 0 < 2
+      → Frames tape shown at₀ i₀ n₀ x₀ answers₀ (at + 3) (i + 1) (n + 1) (moreOf x (getD tape (at + 2) 0)) (set answers i (pulled (bitAt shown n) (getD tape (at + 2) 0)))
+
+-- frames of the byte of the device that talks, whose head is h, or of the one that all others hear
+pub data Glides (count : ℕ) (bus tape : List ℕ) (talker at i : ℕ) (others : Stage) (h : Head) (answers : List ℕ) : Stage → Head → ℕ → ℕ → List ℕ → Type 0 where
+  own : {at′ i′ n x : ℕ} {answers′ : List ℕ} → talker < count
+      → Frames tape (shownIn bus (recordSize * talker) (driven h (h .stage))) at i (byteOf (h .stage) .count) (byteOf (h .stage) .bits) answers at′ i′ n x answers′
+      → Glides count bus tape talker at i others h answers others (glided h (byte n x)) at′ i′ answers′
+  apart : {at′ i′ n x : ℕ} {answers′ : List ℕ} → count ≤ talker → Frames tape 255 at i (byteOf others .count) (byteOf others .bits) answers at′ i′ n x answers′
+      → Glides count bus tape talker at i others h answers (resumed others (byte n x)) h at′ i′ answers′
 
 -- device j's page
 abbrev pub pageIn : List ℕ → ℕ → List ℕ

@@ -3,7 +3,7 @@ ghost use mathlib.Core.Path.{_≡_};
 ghost use Prim.Native.Nat.{ℕ, _+_, _*_, _%_, _<_, _≤_};
 ghost use lib.ListN.{length, getD, take, drop, set};
 ghost use Rattle.image.specs.Layout.{recordSize};
-ghost use Rattle.bus.specs.Held.{cellAt, levelIn, pageIn, burntIn, programmedIn, actedIn, putIn};
+ghost use Rattle.bus.specs.Held.{cellAt, levelIn, shownIn, pageIn, burntIn, programmedIn, actedIn, putIn};
 use chip::Act;
 use chip::Command;
 use chip::Drive;
@@ -40,6 +40,25 @@ pub fn level(bus: &[u8], from: usize, v: Drive) -> u8
         Drive::IdBit(k, n) => {
             let at = from + ID_AT + (k % 3) as usize;
             bits::bit_at(bus[at], n)
+        }
+    }
+}
+
+// The byte whose bits a drive shows, by the bytes of the record that begins at `from`.
+pub fn shown(bus: &[u8], from: usize, v: Drive) -> u8
+    requires { ⌜ from + recordSize ≤ length (now bus) ⌝ }
+    ensures { λ r. ⌜ r ≡ shownIn (now (bus .entry)) from v ⌝ }
+{
+    match v {
+        Drive::Free => 255,
+        Drive::Low => 0,
+        Drive::CellBit(r, p, _) => {
+            let at = from + cell_at(r, p);
+            bus[at]
+        }
+        Drive::IdBit(k, _) => {
+            let at = from + ID_AT + (k % 3) as usize;
+            bus[at]
         }
     }
 }

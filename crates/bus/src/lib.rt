@@ -1,5 +1,6 @@
 // The devices of a bus file on one wire, and a run of an event file over them.
 mod act;
+mod glide;
 mod play;
 mod talk;
 
@@ -8,6 +9,8 @@ ghost use Prim.Native.Nat.{ℕ};
 ghost use lib.ListN.{length};
 ghost use Rattle.bus.specs.Read.{busRead};
 ghost use Rattle.bus.specs.Run.{ranOf, busAfter, answersAfter};
+use chip::Head;
+use chip::Stage;
 use faults::Fault;
 
 // A run's answer: the number of events and of 80h answers, or the refusal.
@@ -20,6 +23,28 @@ pub enum Ran {
 pub struct Span {
     pub from: usize,
     pub to: usize,
+}
+
+// A byte under way: how many of its bits came or went, and their value.
+pub struct Byte {
+    pub count: u8,
+    pub bits: u8,
+}
+
+// Where frames of a byte end: the place in the event file, the number of answers, the byte.
+pub struct Reached {
+    pub at: usize,
+    pub i: usize,
+    pub count: u8,
+    pub bits: u8,
+}
+
+// Where they end for a run: the stage that the others share, the head of the device that talks, the place in the event file, the number of answers.
+pub struct Ended {
+    pub others: Stage,
+    pub head: Head,
+    pub at: usize,
+    pub i: usize,
 }
 
 // The event file's events on the bus file's devices: an answer byte for each, and the stored fields as they are then in the bus file.

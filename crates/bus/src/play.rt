@@ -13,6 +13,7 @@ ghost use Rattle.image.specs.Scan.{busFault};
 ghost use Rattle.image.specs.Image.{devicesOf, savedOf};
 ghost use Rattle.bus.specs.Held.{answerFrom, NamedIn};
 use crate::act;
+use crate::glide;
 use crate::talk;
 use chip::Device;
 use chip::Event;
@@ -150,6 +151,15 @@ pub fn play(
         refused += counted(barred);
         at += read.size;
         i += 1;
+        // The frames behind it that only move a byte on. Where nobody talks, the head that is passed comes back as it is.
+        let k = talker % 8;
+        let own = heads[k];
+        let e = glide::glide(count, bus, tape, talker, at, i, others, own, answers);
+        let own = e.head;
+        heads[k] = own;
+        others = e.others;
+        at = e.at;
+        i = e.i;
     }
     refused
 }

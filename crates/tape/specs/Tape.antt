@@ -1,5 +1,6 @@
 -- The event file: its faults, in document 01's order, and its events.
-use Prim.Native.Nat.{ℕ, zero, suc, _+_, _*_, _-_}
+use Prim.Native.Nat.{ℕ, zero, suc, _+_, _*_, _-_, _<_, _≤_}
+use mathlib.Core.Path.{_≡_}
 use mathlib.Core.Bool.{Bool}
 use mathlib.Core.List.{List, [], _∷_}
 use lib.Dec.{eqb, ltb}
@@ -86,3 +87,9 @@ eventsOf l = eventsFrom 0 l
 -- "Each returns its number, counts of zero"
 unfoldable pub scanOf : List ℕ → Scan
 scanOf l = record { fault = tapeFault l; events = pick (isClean (tapeFault l)) (length (eventsOf l)) 0 }
+
+-- ---- a stretch of k events without a fault and without a mask, from byte `at` of the file on
+pub record Plain (s : List ℕ) (at k : ℕ) : Type 0 where
+  pub inside : at + 3 * k ≤ length s
+  pub sound : (i : ℕ) → i < k → eventFault (at + 3 * i) (drop (at + 3 * i) s) .number ≡ 0
+  pub short : (i : ℕ) → i < k → sizeOf (getD s (at + 3 * i + 2) 0) ≡ 3

@@ -3,7 +3,7 @@ ghost use mathlib.Core.Path.{_≡_};
 ghost use Prim.Native.Nat.{ℕ, _+_, _<_, _≤_};
 ghost use Rattle.bits.specs.Words.{isNot};
 ghost use lib.ListN.{length, getD, drop};
-ghost use Rattle.tape.specs.Tape.{longest, marked, sizeOf, maskOf, kindEvent, readOf, eventFault, scanOf};
+ghost use Rattle.tape.specs.Tape.{longest, marked, sizeOf, maskOf, kindEvent, readOf, eventFault, scanOf, Plain};
 use chip::Event;
 use faults::Fault;
 use faults::found;
@@ -13,10 +13,10 @@ use faults::nothing;
 pub const LONGEST: usize = 49152;
 
 // The place of the kind byte in an event.
-const KIND: usize = 2;
+pub const KIND: usize = 2;
 
 // Mark and kind, the bytes of an event that has no mask.
-const SHORT: usize = 3;
+pub const SHORT: usize = 3;
 
 // The bytes of a mask.
 const MASK: usize = 8;
@@ -106,6 +106,30 @@ fn event_fault(left: &[u8], at: usize) -> Fault
     nothing()
 }
 
+// How many events from `start` on have, one after the other, neither a fault nor a mask: most of a file, three bytes each.
+fn plain_ahead(tape: &[u8], start: usize) -> usize
+    requires { ⌜ (start ≤ length (now tape)) × (length (now tape) ≤ longest) ⌝ }
+    ensures { λ r. ⌜ Plain (now (tape .entry)) start r ⌝ }
+{
+    let mark = b"EV";
+    let mut at = start;
+    let mut n: usize = 0;
+    while at + KIND < tape.len() {
+        if tape[at] != mark[0] {
+            return n;
+        }
+        if tape[at + 1] != mark[1] {
+            return n;
+        }
+        if CUT <= tape[at + KIND] {
+            return n;
+        }
+        at += SHORT;
+        n += 1;
+    }
+    n
+}
+
 pub fn scan_tape(tape: &[u8]) -> Scan
     ensures { λ r. ⌜ r ≡ scanOf (now (tape .entry)) ⌝ }
 {
@@ -121,6 +145,9 @@ pub fn scan_tape(tape: &[u8]) -> Scan
         }
         at += size_of(tape[at + KIND]);
         n += 1;
+        let k = plain_ahead(tape, at);
+        at += SHORT * k;
+        n += k;
     }
     Scan {
         fault: nothing(),

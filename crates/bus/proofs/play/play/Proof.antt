@@ -3,14 +3,16 @@ use Rattle.tape.specs.declared.Read.{Read}
 use Rattle.tape.specs.Tape.{kindOf}
 use Rattle.tape.proofs.TapeLaws.{size-some}
 use borrow.Author.Needs.{needs}
-use Prim.Native.Nat.{_≤_, _*_, _-_}
+use Prim.Native.Nat.{_+_, _≤_, _*_, _-_}
 use native.Mathlib.Omega.{arith}
 use mathlib.Core.Path.{_≡_, _∙_, refl, sym, ap}
-use lib.ListN.{length, drop, length-set, length-map}
+use lib.ListN.{length, set, drop, length-set, length-map}
 use Rattle.faults.proofs.Lists.{mapped-length}
 use Rattle.image.specs.Layout.{recordSize}
 use Rattle.image.proofs.InPlaced.{in-place}
 use Rattle.bus.proofs.Running.{at-most-one, turns-by, ran-none, wired-long, Ran, ran-size, ran-room, ran-more, ran-last, ran-answers, ran-refused, span-most, Inner, inner-none, inner-by, inner-done}
+use Rattle.bus.proofs.Frames.{glides-went}
+use Rattle.bus.proofs.Gliding.{ran-glide, ran-space}
 use Rattle.bus.proofs.Held.{saved-flat}
 use Rattle.image.specs.Image.{savedOf}
 use Rattle.bus.proofs.Starting.{started}
@@ -205,33 +207,68 @@ add-i c =
     let h = ran-room (inv .8) (c .before .before .before .before .before .before .before .before .before .before .before .before .before .loop-test .taken) in
     omega (arith, h, c .before .before .before .before .before .before .before .before .before .before .before .before .before .before .before .before .before .before .before .before .pre .3, c .before .before .before .before .before .before .before .before .before .before .before .before .before .before .before .before .before)
 
-loop-less : tie.Need-loop-less Inv-loop2 μ-loop2 Inv-loop μ-loop
-loop-less c =
-    let inv = c .before .before .before .before .before .before .before .before .before .before .before .before .before .before .loop .inv in
-    let t = c .before .before .before .before .before .before .before .before .before .before .before .before .before .loop-test .taken in
-    let h = ran-size (inv .8) t in
-    let e = ap (λ (r : Read). r .size) (c .before .before .before .before .before .before .before .before .before .before .before .before .event-at .ensures) in
-    omega (arith, h, e, t, size-some (kindOf (drop (c .before .before .before .before .before .before .before .before .before .before .before .before .before .before .loop .at) (c .before .before .before .before .before .before .before .before .before .before .before .before .before .before .before .before .before .before .before .before .args .tape .now))))
-
-loop-again : tie.Need-loop-again Inv-loop2 μ-loop2 Inv-loop μ-loop
-loop-again c =
+-- the event that is played first
+turned : (c : tie.After-struct-known Inv-loop2 μ-loop2 Inv-loop μ-loop)
+    → Ran (c .before .before .before .before .before .before .before .before .before .before .before .before .before .before .before .before .before .before .before .before .args .count) (c .before .before .before .before .before .before .before .before .before .before .before .before .before .before .before .before .before .before .before .before .args .bus .now) (c .before .before .before .before .before .before .before .before .before .before .before .before .before .before .before .before .before .before .before .before .args .tape .now) (c .before .before .before .before .before .before .before .before .before .before .before .before .before .before .before .places-of .result) (c .before .before .before .before .before .before .before .before .before .before .before .before .before .before .before .before .before .before .before .before .args .answers .now)
+    (set (c .before .before .before .before .before .before .before .before .before .before .before .before .before .before .loop .answers) (c .before .before .before .before .before .before .before .before .before .before .before .before .before .before .loop .i) (c .before .before .answer .result)) (c .before .before .before .before .before .before .before .loop2 .heads) (c .before .before .before .before .before .before .before .loop2 .pages) (c .before .before .before .before .before .before .before .loop2 .bus)
+    (c .before .before .before .before .before .others-after .result) (c .before .before .before .before .kept .result) (c .before .before .before .still .result) (c .before .before .before .before .before .before .before .before .before .before .before .before .before .before .loop .refused + c .before .counted .result)
+    (c .before .before .before .before .before .before .before .before .before .before .before .before .before .before .loop .at + c .before .before .before .before .before .before .before .before .before .before .before .before .event-at .result .size) (c .before .before .before .before .before .before .before .before .before .before .before .before .before .before .loop .i + 1)
+turned c =
     let inv = c .before .before .before .before .before .before .before .before .before .before .before .before .before .before .loop .inv in
     let inv2 = c .before .before .before .before .before .before .before .loop2 .inv in
     let t = c .before .before .before .before .before .before .before .before .before .before .before .before .before .loop-test .taken in
     let q = turns-by (c .before .before .before .before .before .before .before .before .before .before .before .before .before .before .before .before .before .before .before .before .args .count) (c .before .before .before .before .before .before .before .before .before .before .before .before .before .before .before .places-of .result) (c .before .before .before .before .before .before .before .before .before .before .before .before .before .before .loop .talker) (c .before .before .before .before .before .before .before .before .before .before .before .before .before .before .loop .others) (c .before .before .before .before .before .before .before .before .before .before .before .before .before .before .loop .any) (c .before .before .before .before .before .before .before .before .before .before .before .before .event-at .result .event) _ _ _ (c .before .before .before .before .before .before .before .before .before .before .before .barred .ensures) (c .before .before .before .before .before .before .before .before .before .before .called .ensures .0) (c .before .before .before .before .before .before .before .before .before .span-of .ensures) in
     let p = inner-done _ _ q (inv2 .8) (c .before .before .before .before .before .before .loop2-test .left) (omega (arith, inv2 .1, inv2 .2)) (inv .8 .ds) (inv .8 .wired) in
     let r = ran-more (inv .8) t (c .before .before .before .before .before .before .before .before .before .before .before .barred .result) (rw (c .before .before .before .before .before .before .before .before .before .before .before .before .event-at .ensures) at (sym (c .before .before .before .before .before .before .before .before .before .before .before .barred .ensures))) _ _ _ _ _ _ (rw (c .before .before .before .before .before .before .before .before .before .before .before .before .event-at .ensures) at p) in
-    let h = ran-size (inv .8) t in
-    let e = ap (λ (r : Read). r .size) (c .before .before .before .before .before .before .before .before .before .before .before .before .event-at .ensures) in (
-      omega (arith, h, e),
-      omega (arith, inv .1, c .before .counted .ensures, at-most-one (c .before .before .before .before .before .before .before .before .before .before .before .barred .result)),
-      simp length-set (inv .2),
+    simp (c .before .counted .ensures, c .before .before .answer .ensures, c .before .before .before .still .ensures, c .before .before .before .before .kept .ensures, c .before .before .before .before .before .others-after .ensures, c .before .before .before .before .before .before .before .before .before .before .before .before .event-at .ensures) r
+
+-- its bytes lie inside the file
+whole : (c : tie.After-struct-known Inv-loop2 μ-loop2 Inv-loop μ-loop)
+    → (c .before .before .before .before .before .before .before .before .before .before .before .before .before .before .loop .at + 3 ≤ c .before .before .before .before .before .before .before .before .before .before .before .before .before .before .loop .at + c .before .before .before .before .before .before .before .before .before .before .before .before .event-at .result .size) × (c .before .before .before .before .before .before .before .before .before .before .before .before .before .before .loop .at + c .before .before .before .before .before .before .before .before .before .before .before .before .event-at .result .size ≤ length (c .before .before .before .before .before .before .before .before .before .before .before .before .before .before .before .before .before .before .before .before .args .tape .now))
+whole c =
+    let h = ran-size (c .before .before .before .before .before .before .before .before .before .before .before .before .before .before .loop .inv .8) (c .before .before .before .before .before .before .before .before .before .before .before .before .before .loop-test .taken) in
+    let e = ap (λ (r : Read). r .size) (c .before .before .before .before .before .before .before .before .before .before .before .before .event-at .ensures) in
+    let s = size-some (kindOf (drop (c .before .before .before .before .before .before .before .before .before .before .before .before .before .before .loop .at) (c .before .before .before .before .before .before .before .before .before .before .before .before .before .before .before .before .before .before .before .before .args .tape .now))) in
+    (omega (arith, e, s), omega (arith, h, e))
+
+mul-own : tie.Need-mul-own Inv-loop2 μ-loop2 Inv-loop μ-loop
+mul-own c = search needs
+
+array-copy-out-own : tie.Need-array-copy-out-own Inv-loop2 μ-loop2 Inv-loop μ-loop
+array-copy-out-own c = search needs
+
+glide-requires : tie.Need-glide-requires Inv-loop2 μ-loop2 Inv-loop μ-loop
+glide-requires c κs =
+    let inv = c .before .before .before .before .before .before .before .before .before .before .before .before .before .before .before .before .before .loop .inv in
+    (simp length-set (ran-space (turned (c .before .before .before)) _ (simp (inv .2) (c .before .before .before .before .before .before .before .before .before .before .before .before .before .before .before .before .before .before .before .before .before .before .before .pre .3))), inv .3, c .before .before .before .before .before .before .before .before .before .before .loop2 .inv .7)
+
+mul-heads-2 : tie.Need-mul-heads-2 Inv-loop2 μ-loop2 Inv-loop μ-loop
+mul-heads-2 c = search needs
+
+array-set-from-heads-2 : tie.Need-array-set-from-heads-2 Inv-loop2 μ-loop2 Inv-loop μ-loop
+array-set-from-heads-2 c = search needs
+
+loop-less : tie.Need-loop-less Inv-loop2 μ-loop2 Inv-loop μ-loop
+loop-less c =
+    let w = whole (c .before .before .before .before .before .before .before) in
+    let g = glides-went (c .before .before .before .glide .ensures) in
+    omega (arith, w .0, w .1, g .place, g .inside (w .1))
+
+loop-again : tie.Need-loop-again Inv-loop2 μ-loop2 Inv-loop μ-loop
+loop-again c =
+    let inv = c .before .before .before .before .before .before .before .before .before .before .before .before .before .before .before .before .before .before .before .before .before .loop .inv in
+    let inv2 = c .before .before .before .before .before .before .before .before .before .before .before .before .before .before .loop2 .inv in
+    let w = whole (c .before .before .before .before .before .before .before) in
+    let g = glides-went (c .before .before .before .glide .ensures) in (
+      g .inside (w .1),
+      omega (arith, inv .1, g .number, c .before .before .before .before .before .before .before .before .counted .ensures, at-most-one (c .before .before .before .before .before .before .before .before .before .before .before .before .before .before .before .before .before .before .barred .result)),
+      g .long ∙ simp length-set (inv .2),
       inv .3,
       inv .4,
-      inv2 .5,
+      simp length-set (inv2 .5),
       inv2 .6,
       inv2 .7,
-      simp (c .before .counted .ensures, c .before .before .answer .ensures, c .before .before .before .still .ensures, c .before .before .before .before .kept .ensures, c .before .before .before .before .before .others-after .ensures, c .before .before .before .before .before .before .before .before .before .before .before .before .event-at .ensures) r,
+      ran-glide (turned (c .before .before .before .before .before .before .before)) in-place (inv .3) (inv2 .5) (c .before .before .before .glide .ensures),
       omega (arith, inv2 .7, inv .7, inv .9),
     )
 
@@ -297,6 +334,11 @@ play-spec =
     add-refused
     add-at
     add-i
+    mul-own
+    array-copy-out-own
+    glide-requires
+    mul-heads-2
+    array-set-from-heads-2
     loop-less
     loop-again
     same-length
