@@ -1,0 +1,9 @@
+pub mod Kit
+pub mod Walk
+pub mod Again
+pub mod Element
+pub mod Value
+pub mod Places
+pub mod Turns
+pub mod Numbers
+pub mod Road
