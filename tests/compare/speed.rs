@@ -41,13 +41,25 @@ fn main() {
             let bus = permissive(make::good_bus(&mut random, devices));
             let events = exactly(&mut random, &bus, make);
             let tape = make::tape_of(&events);
-            let (proved, second) = time(&bus, &tape);
+            let (proved, second) = time(&bus, &tape, events.len());
             let ratio = proved / second;
             worst = worst.max(ratio);
             println!("{name:<22} {devices:>7} {proved:>9.3} {second:>9.3} {ratio:>7.2}");
         }
     }
     println!("speed: worst ratio {worst:.2}");
+    growth(&mut random);
+}
+
+/// The first events of one trace, more and more of them: where time grows in proportion to the
+/// events the figures are alike.
+fn growth(random: &mut Random) {
+    let bus = permissive(make::good_bus(random, 8));
+    let events = exactly(random, &bus, mix);
+    for count in [EVENTS / 8, EVENTS / 4, EVENTS / 2, EVENTS] {
+        let (proved, second) = time(&bus, &make::tape_of(&events[..count]), count);
+        println!("command mix, {count:>6} events, 8 devices: {proved:.3} and {second:.3} ns per event");
+    }
 }
 
 /// No zone ROM, nothing frozen or locked: every write arrives.
@@ -90,16 +102,16 @@ fn exactly(random: &mut Random, bus: &[u8], make: Making) -> Vec<Event> {
 }
 
 /// ns per event of the proved program and of the second.
-fn time(bus: &[u8], tape: &[u8]) -> (f64, f64) {
+fn time(bus: &[u8], tape: &[u8], count: usize) -> (f64, f64) {
     let mut work = bus.to_vec();
-    let mut answers = vec![0; EVENTS];
-    let mut other = vec![0; EVENTS];
+    let mut answers = vec![0; count];
+    let mut other = vec![0; count];
     let first = face::run(&mut work, tape, &mut answers);
     let after = work.clone();
     work.copy_from_slice(bus);
     let outcome = second::run(&mut work, tape, &mut other);
     assert!(
-        first.number == 0 && outcome.number == 0 && first.count == EVENTS,
+        first.number == 0 && outcome.number == 0 && first.count == count,
         "speed: the trace is refused"
     );
     assert!(answers == other && after == work, "speed: the programs differ");
@@ -120,8 +132,8 @@ fn time(bus: &[u8], tape: &[u8]) -> (f64, f64) {
     while spent.0 < ENOUGH || spent.1 < ENOUGH || batches < LEAST_BATCHES {
         let one = batch(proved_times, || proved(&mut work, &mut answers));
         let two = batch(second_times, || second(&mut work, &mut answers));
-        best.0 = best.0.min(one.as_nanos() as f64 / (proved_times * EVENTS) as f64);
-        best.1 = best.1.min(two.as_nanos() as f64 / (second_times * EVENTS) as f64);
+        best.0 = best.0.min(one.as_nanos() as f64 / (proved_times * count) as f64);
+        best.1 = best.1.min(two.as_nanos() as f64 / (second_times * count) as f64);
         spent.0 += one;
         spent.1 += two;
         batches += 1;
