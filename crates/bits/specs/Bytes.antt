@@ -1,6 +1,6 @@
 -- Bytes taken apart and merged. A byte is a number below 256, and its bit k is `b / 2 ^ k % 2`.
 use Prim.Native.Nat.{ℕ, zero, suc, _+_, _-_, _*_, _/_, _%_, _^_}
-use mathlib.Core.Bool.{Bool}
+use mathlib.Core.Bool.{Bool, true, false}
 use lib.Dec.{eqb}
 use Rattle.bits.specs.Words.{pick}
 use Rattle.bits.specs.declared.Selector.{Selector}
@@ -33,6 +33,22 @@ mainAddress b = b % 128
 abbrev pub securityAddress : ℕ → ℕ
 securityAddress b = b % 32
 
+-- ---- "Reading Ah or Bh: after the eighth bit the pointer becomes one more, mod 128 for Ah, mod 32 for Bh." A region of `size` addresses
+abbrev pub afterIn : ℕ → ℕ → ℕ
+afterIn size p = (p % size + 1) % size
+
+-- ---- "Writing Ah or Bh: data bytes go to a page of eight, going back to the page's first address at its end"; a round of `size` addresses
+abbrev pub nextIn : ℕ → ℕ → ℕ
+nextIn size p = p / size * size + (p % size + 1) % size
+
+-- ---- 2h: "the next byte must be 0110 in its high four bits"
+abbrev pub isLockByte : ℕ → Bool
+isLockByte b = eqb (b / 16) 6
+
+-- ---- 1h: "With R/W 0: 55h, then AAh; any other byte is not answered."
+abbrev pub isFreezeByte : ℕ → Bool
+isFreezeByte b = eqb b 0x55
+
 -- ---- "the zone byte's high four bits are ignored; it is answered if exactly one of its four low bits is set, and that bit's place becomes the selector"
 abbrev pub zoneOfLow : ℕ → Selector
 zoneOfLow l = pick (eqb l 1) (Zone 0) (pick (eqb l 2) (Zone 1) (pick (eqb l 4) (Zone 2) (pick (eqb l 8) (Zone 3) Unset)))
@@ -40,12 +56,30 @@ zoneOfLow l = pick (eqb l 1) (Zone 0) (pick (eqb l 2) (Zone 1) (pick (eqb l 4) (
 unfoldable pub zoneOf : ℕ → Selector
 zoneOf b = zoneOfLow (b % 16)
 
+abbrev pub isSet : Selector → Bool
+isSet Unset = false
+isSet (Zone z) = true
+
 -- ---- the flag byte: "bits 0 to 3: zones 0 to 3 are ROM; 4: zones frozen; 5: Security Register locked"
 unfoldable pub hasFlag : ℕ → ℕ → Bool
 hasFlag f k = eqb (f / 2 ^ (k % 8) % 2) 1
 
 unfoldable pub withFlag : ℕ → ℕ → ℕ
 withFlag f k = pick (hasFlag f k) f (f + 2 ^ (k % 8))
+
+-- ---- "Permissions are the ROM, frozen and locked bits."
+abbrev pub isRom : ℕ → ℕ → Bool
+isRom flags zone = hasFlag flags (zone % 4)
+
+abbrev pub isFrozen : ℕ → Bool
+isFrozen flags = hasFlag flags 4
+
+abbrev pub isLocked : ℕ → Bool
+isLocked flags = hasFlag flags 5
+
+-- "Zone z is main addresses 32z to 32z+31"
+abbrev pub zoneAt : ℕ → ℕ
+zoneAt p = p % 128 / 32
 
 -- ---- Mixture: "the mask byte is number (address mod 8), counted from the least significant"
 unfoldable pub maskByte : ℕ → ℕ → ℕ

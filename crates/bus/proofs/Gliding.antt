@@ -10,7 +10,7 @@ use lib.Dec.{eqb, ltb}
 use lib.ListN.{length, getD, set, length-set}
 use lib.Seq.{getD-set-same, set-set, set-getD}
 use Rattle.bits.proofs.Table.{each}
-use Rattle.bits.specs.Bytes.{bitAt, moreOf}
+use Rattle.bits.specs.Bytes.{bitAt, moreOf, isRom}
 use Rattle.bits.specs.declared.Selector.{Selector}
 use Rattle.bits.specs.declared.Selector.the-variants.{Unset, Zone}
 use Rattle.chip.specs.declared.Device.{Device}
@@ -25,7 +25,7 @@ use Rattle.chip.specs.declared.Drive.the-variants.{Free, Low}
 use Rattle.chip.specs.declared.Act.the-variants.{Nothing}
 use Rattle.chip.specs.declared.Event.the-variants.{Bit}
 use Rattle.chip.specs.Head.{at}
-use Rattle.chip.specs.Stages.{isRom, registerDrive, shows, framed}
+use Rattle.chip.specs.Stages.{registerDrive, shows, framed}
 use Rattle.chip.specs.Cycle.{heard}
 use Rattle.chip.proofs.KeptLaws.{choice}
 use Rattle.wire.specs.Wire.{busy, anyBusy, pulled}

@@ -11,9 +11,9 @@ use lib.Dec.{eqb, ltb}
 use lib.ListN.{length, getD, set, length-set}
 use lib.Seq.{getD-set-same, getD-set-other}
 use Rattle.bits.specs.Words.{pick}
-use Rattle.bits.specs.Bytes.{maskByte, merged}
+use Rattle.bits.specs.Bytes.{maskByte, merged, nextIn}
 use Rattle.bits.proofs.Table.{last-or}
-use Rattle.chip.specs.Stages.{nextIn, oneMore}
+use Rattle.chip.specs.Stages.{oneMore}
 use Rattle.chip.specs.Memory.{gathered, burntCell, burntTo}
 use Rattle.chip.specs.Pages.{Rounds, Burns}
 

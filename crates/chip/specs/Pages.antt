@@ -6,8 +6,8 @@ use mathlib.Core.List.{List}
 use lib.Dec.{eqb}
 use lib.ListN.{length, getD}
 use Rattle.bits.specs.Words.{pick}
-use Rattle.bits.specs.Bytes.{maskByte, merged}
-use Rattle.chip.specs.Stages.{nextIn, oneMore}
+use Rattle.bits.specs.Bytes.{maskByte, merged, nextIn}
+use Rattle.chip.specs.Stages.{oneMore}
 use Rattle.chip.specs.Memory.{gathered, burntTo}
 
 -- where the pointer goes, and which cells count as gathered

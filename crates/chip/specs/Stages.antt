@@ -3,7 +3,7 @@ use Prim.Native.Nat.{ℕ, _+_, _-_, _*_, _/_, _%_}
 use mathlib.Core.Bool.{Bool, true, false}
 use lib.Dec.{eqb, ltb}
 use Rattle.bits.specs.Words.{pick, both, isNot}
-use Rattle.bits.specs.Bytes.{moreOf, opcodeOf, slaveOf, readOf, mainAddress, securityAddress, zoneOf, hasFlag}
+use Rattle.bits.specs.Bytes.{moreOf, opcodeOf, slaveOf, readOf, mainAddress, securityAddress, afterIn, nextIn, isLockByte, isFreezeByte, zoneOf, isSet, isRom, isFrozen, isLocked, zoneAt}
 use Rattle.bits.specs.declared.Selector.{Selector}
 use Rattle.bits.specs.declared.Selector.the-variants.{Unset, Zone}
 use Rattle.chip.specs.declared.Head.{Head}
@@ -26,20 +26,6 @@ use Rattle.chip.specs.declared.Act.{Act}
 use Rattle.chip.specs.declared.Act.the-variants.{Nothing, Put}
 use Rattle.chip.specs.Head.{at, pointing, choosing, paced, framing, silent, answering}
 
--- ---- permissions: "Permissions are the ROM, frozen and locked bits"
--- "Zone z is main addresses 32z to 32z+31"
-abbrev pub zoneAt : ℕ → ℕ
-zoneAt p = p % 128 / 32
-
-abbrev pub isRom : ℕ → ℕ → Bool
-isRom flags zone = hasFlag flags (zone % 4)
-
-abbrev pub isFrozen : ℕ → Bool
-isFrozen flags = hasFlag flags 4
-
-abbrev pub isLocked : ℕ → Bool
-isLocked flags = hasFlag flags 5
-
 -- ---- "Device address: opcode, three slave address bits, R/W. A wrong address or opcode: not answered."
 unfoldable pub named : ℕ → Opcode
 named o =
@@ -52,10 +38,6 @@ named o =
     (pick (eqb o 0xD) StandardSpeed
     (pick (eqb o 0xE) HighSpeed
     Unknown)))))))
-
-abbrev pub isSet : Selector → Bool
-isSet Unset = false
-isSet (Zone z) = true
 
 abbrev pub isHigh : Speed → Bool
 isHigh High = true
@@ -108,12 +90,12 @@ abbrev pub answersPlace : Head → Command → ℕ → Bool
 -- "Data for a ROM zone, for a locked register or for Security 00h to 0Fh is not answered; the two address bytes are."
 answersPlace h (Page r) x = true
 -- 2h: "the next byte must be 0110 in its high four bits and the register unlocked, else not answered"
-answersPlace h Lock x = both (eqb (x / 16) 6) (isNot (isLocked (h .flags)))
-answersPlace h Check x = both (eqb (x / 16) 6) (isNot (isLocked (h .flags)))
+answersPlace h Lock x = both (isLockByte x) (isNot (isLocked (h .flags)))
+answersPlace h Check x = both (isLockByte x) (isNot (isLocked (h .flags)))
 -- 7h: "it is answered if exactly one of its four low bits is set"
 answersPlace h Rom x = isSet (zoneOf x)
 -- 1h: "With R/W 0: 55h, then AAh; any other byte is not answered."
-answersPlace h Freeze x = eqb x 0x55
+answersPlace h Freeze x = isFreezeByte x
 
 abbrev pub addressIn : Region → ℕ → ℕ
 addressIn Main x = mainAddress x
@@ -129,8 +111,8 @@ causedByPlace h Freeze x = answering h (Data Freeze 0 0 0)
 
 -- ---- "Reading Ah or Bh: after the eighth bit the pointer becomes one more, mod 128 for Ah, mod 32 for Bh."
 abbrev pub afterEighth : Source → ℕ → ℕ
-afterEighth (Cells Main) p = (p % 128 + 1) % 128
-afterEighth (Cells Security) p = (p % 32 + 1) % 32
+afterEighth (Cells Main) p = afterIn 128 p
+afterEighth (Cells Security) p = afterIn 32 p
 afterEighth (Id k) p = p
 afterEighth Register p = p
 
@@ -158,10 +140,6 @@ sendingOf h s n b =
     (pick (eqb (b % 2) 0) (silent h (nextByte s)) (silent h Standby)))
 
 -- ---- "Writing Ah or Bh: data bytes go to a page of eight, going back to the page's first address at its end"
--- the next address of a round of `size` addresses
-abbrev pub nextIn : ℕ → ℕ → ℕ
-nextIn size p = p / size * size + (p % size + 1) % size
-
 -- data bytes answered so far, eight at most: a ninth takes the first one's place
 abbrev pub oneMore : ℕ → ℕ
 oneMore taken = pick (ltb taken 8) (taken + 1) 8

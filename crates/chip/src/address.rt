@@ -2,22 +2,18 @@
 ghost use mathlib.Core.Path.{_≡_};
 ghost use mathlib.Core.Bool.{true, false};
 ghost use Prim.Native.Nat.{ℕ, _+_, _%_};
-ghost use Rattle.bits.specs.Words.{isNot};
-ghost use Rattle.chip.specs.Stages.{isFrozen, isLocked, named, isSet, isHigh, answersOpcode, answersAddress, opened, causedByAddress, framed};
+ghost use Rattle.chip.specs.Stages.{named, isHigh, answersOpcode, answersAddress, opened, causedByAddress, framed};
 ghost use Rattle.chip.specs.declared.Stage.the-variants.{Address};
 use crate::Act;
 use crate::Command;
 use crate::Drive;
-use crate::FROZEN;
 use crate::Framed;
 use crate::Head;
-use crate::LOCKED;
 use crate::Opcode;
 use crate::Region;
 use crate::Source;
 use crate::Speed;
 use crate::Stage;
-use bits::Selector;
 
 const PART_11: u8 = 0x11;
 
@@ -51,15 +47,6 @@ pub fn named(o: u8) -> Opcode
     Opcode::Unknown
 }
 
-pub fn is_set(z: Selector) -> bool
-    ensures { λ r. ⌜ r ≡ isSet z ⌝ }
-{
-    match z {
-        Selector::Unset => false,
-        Selector::Zone(_) => true,
-    }
-}
-
 pub fn is_high(v: Speed) -> bool
     ensures { λ r. ⌜ r ≡ isHigh v ⌝ }
 {
@@ -70,24 +57,6 @@ pub fn is_high(v: Speed) -> bool
 }
 
 impl Head {
-    pub fn thawed(self) -> bool
-        ensures { λ r. ⌜ r ≡ isNot (isFrozen (self .flags)) ⌝ }
-    {
-        if bits::flag(self.flags, FROZEN) {
-            return false;
-        }
-        true
-    }
-
-    pub fn unlocked(self) -> bool
-        ensures { λ r. ⌜ r ≡ isNot (isLocked (self .flags)) ⌝ }
-    {
-        if bits::flag(self.flags, LOCKED) {
-            return false;
-        }
-        true
-    }
-
     // Dh: part 11h never answers it.
     fn answers_standard(self, reads: bool) -> bool
         ensures { λ r. ⌜ r ≡ answersOpcode self Opcode.StandardSpeed reads ⌝ }
@@ -115,11 +84,11 @@ impl Head {
             Opcode::LockRegister => true,
             Opcode::ZoneRegister => {
                 if reads {
-                    return is_set(z);
+                    return bits::is_set(z);
                 }
                 true
             }
-            Opcode::FreezeZones => self.thawed(),
+            Opcode::FreezeZones => bits::thawed(self.flags),
             Opcode::ManufacturerId => reads,
             Opcode::StandardSpeed => self.answers_standard(reads),
             Opcode::HighSpeed => {

@@ -1,7 +1,7 @@
 // The data bytes of a write.
 ghost use mathlib.Core.Path.{_≡_};
 ghost use Prim.Native.Nat.{ℕ, _+_, _*_, _/_, _%_};
-ghost use Rattle.chip.specs.Stages.{zoneAt, isRom, nextIn, oneMore, answersData, causedByData, framed};
+ghost use Rattle.chip.specs.Stages.{oneMore, answersData, causedByData, framed};
 ghost use Rattle.chip.specs.declared.Stage.the-variants.{Data};
 use crate::Act;
 use crate::Command;
@@ -15,20 +15,6 @@ const ROM_BYTE: u8 = 0xFF;
 
 const FREEZE_DATA: u8 = 0xAA;
 
-// Whether a zone is ROM.
-pub fn is_rom(flags: u8, zone: u8) -> bool
-    ensures { λ r. ⌜ r ≡ isRom flags zone ⌝ }
-{
-    bits::flag(flags, zone % 4)
-}
-
-// The next address inside a page of eight.
-pub fn next_in_page(p: u8) -> u8
-    ensures { λ r. ⌜ r ≡ nextIn 8 p ⌝ }
-{
-    p / 8 * 8 + (p % 8 + 1) % 8
-}
-
 pub fn one_more(taken: u8) -> u8
     ensures { λ r. ⌜ r ≡ oneMore taken ⌝ }
 {
@@ -39,22 +25,13 @@ pub fn one_more(taken: u8) -> u8
 }
 
 impl Head {
-    fn answers_main(self) -> bool
-        ensures { λ r. ⌜ r ≡ answersData self (Command.Page Region.Main) 0 0 ⌝ }
-    {
-        if is_rom(self.flags, self.pointer % 128 / 32) {
-            return false;
-        }
-        true
-    }
-
     fn answers_security(self) -> bool
         ensures { λ r. ⌜ r ≡ answersData self (Command.Page Region.Security) 0 0 ⌝ }
     {
         if self.pointer % 32 < 16 {
             return false;
         }
-        self.unlocked()
+        bits::unlocked(self.flags)
     }
 
     fn answers_rom(self, taken: u8, byte: u8) -> bool
@@ -62,7 +39,7 @@ impl Head {
     {
         if taken == 0 {
             if byte == ROM_BYTE {
-                return self.thawed();
+                return bits::thawed(self.flags);
             }
             return false;
         }
@@ -74,7 +51,7 @@ impl Head {
     {
         match c {
             Command::Page(r) => match r {
-                Region::Main => self.answers_main(),
+                Region::Main => bits::open_zone(self.flags, self.pointer),
                 Region::Security => self.answers_security(),
             },
             Command::Lock => taken == 0,
@@ -96,7 +73,7 @@ impl Head {
             Command::Page(r) => {
                 let p = self.pointer;
                 let s = Stage::Data(Command::Page(r), one_more(taken), 0, 0);
-                self.pointing(next_in_page(p))
+                self.pointing(bits::next_in_page(p))
                     .frames(s, Drive::Low, Act::Put(p % 8, byte))
             }
             Command::Lock => self.answering(Stage::Data(Command::Lock, 1, 0, 0)),

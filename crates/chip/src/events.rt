@@ -8,10 +8,8 @@ use crate::Command;
 use crate::Cycle;
 use crate::Drive;
 use crate::Event;
-use crate::FROZEN;
 use crate::Framed;
 use crate::Head;
-use crate::LOCKED;
 use crate::Speed;
 use crate::Stage;
 use bits::Selector;
@@ -94,10 +92,10 @@ impl Head {
         let z = self.selector;
         match c {
             Command::Page(_) => f,
-            Command::Lock => one_way(f, LOCKED, mask),
+            Command::Lock => one_way(f, bits::LOCKED, mask),
             Command::Check => f,
             Command::Rom => rom_bit(f, z, mask),
-            Command::Freeze => one_way(f, FROZEN, mask),
+            Command::Freeze => one_way(f, bits::FROZEN, mask),
         }
     }
 

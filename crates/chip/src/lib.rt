@@ -14,11 +14,6 @@ use bits::Selector;
 pub use events::running;
 pub use memory::burn;
 
-// The places of the one-way bits in the flags beside the zones' 0 to 3.
-pub const FROZEN: u8 = 4;
-
-pub const LOCKED: u8 = 5;
-
 // The two parts of the memory with pages: the main array (Ah) and the Security Register (Bh).
 pub enum Region {
     Main,

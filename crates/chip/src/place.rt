@@ -8,12 +8,6 @@ use crate::Framed;
 use crate::Head;
 use crate::Region;
 use crate::Stage;
-use crate::address::is_set;
-
-// The high four bits that 2h asks for.
-const LOCK_BYTE: u8 = 6;
-
-const FREEZE_BYTE: u8 = 0x55;
 
 pub fn address_in(r: Region, byte: u8) -> u8
     ensures { λ x. ⌜ x ≡ addressIn r byte ⌝ }
@@ -28,8 +22,8 @@ impl Head {
     fn answers_lock_byte(self, byte: u8) -> bool
         ensures { λ r. ⌜ r ≡ answersPlace self Command.Lock byte ⌝ }
     {
-        if byte >> 4 == LOCK_BYTE {
-            return self.unlocked();
+        if bits::is_lock_byte(byte) {
+            return bits::unlocked(self.flags);
         }
         false
     }
@@ -41,8 +35,8 @@ impl Head {
             Command::Page(_) => true,
             Command::Lock => self.answers_lock_byte(byte),
             Command::Check => self.answers_lock_byte(byte),
-            Command::Rom => is_set(bits::zone_of(byte)),
-            Command::Freeze => byte == FREEZE_BYTE,
+            Command::Rom => bits::is_set(bits::zone_of(byte)),
+            Command::Freeze => bits::is_freeze_byte(byte),
         }
     }
 

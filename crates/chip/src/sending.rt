@@ -9,7 +9,6 @@ use crate::Head;
 use crate::Region;
 use crate::Source;
 use crate::Stage;
-use crate::data::is_rom;
 use bits::Selector;
 
 // The pointer after the eighth bit.
@@ -18,8 +17,8 @@ pub fn after_eighth(s: Source, p: u8) -> u8
 {
     match s {
         Source::Cells(r) => match r {
-            Region::Main => (p % 128 + 1) % 128,
-            Region::Security => (p % 32 + 1) % 32,
+            Region::Main => bits::after_main(p),
+            Region::Security => bits::after_security(p),
         },
         Source::Id(_) => p,
         Source::Register => p,
@@ -49,7 +48,7 @@ pub fn register_drive(flags: u8, z: Selector) -> Drive
     match z {
         Selector::Unset => Drive::Free,
         Selector::Zone(k) => {
-            if is_rom(flags, k) {
+            if bits::is_rom(flags, k) {
                 return Drive::Free;
             }
             Drive::Low

@@ -8,7 +8,7 @@ use mathlib.Core.Option.{Option, some, none}
 use lib.Dec.{eqb, ltb}
 use lib.ListN.{length}
 use Rattle.bits.specs.Words.{pick, both, isNot}
-use Rattle.bits.specs.Bytes.{opcodeOf, slaveOf, readOf, zoneOf, hasFlag, withFlag, maskByte}
+use Rattle.bits.specs.Bytes.{opcodeOf, slaveOf, readOf, zoneOf, hasFlag, withFlag, maskByte, isFrozen, isLocked, zoneAt, isSet}
 use Rattle.bits.specs.declared.Selector.{Selector}
 use Rattle.bits.specs.declared.Selector.the-variants.{Unset, Zone}
 use Rattle.chip.specs.declared.Device.{Device}
@@ -26,7 +26,7 @@ use Rattle.chip.specs.declared.Drive.the-variants.{Low}
 use Rattle.chip.specs.declared.Act.the-variants.{Nothing}
 use Rattle.chip.specs.declared.Cycle.the-variants.{Idle, Of}
 use Rattle.chip.specs.Head.{at, pointing, choosing, flagging, silent, answering}
-use Rattle.chip.specs.Stages.{named, isSet, isFrozen, isLocked, answersOpcode, opened, ninth, answersPlace, framed, zoneAt}
+use Rattle.chip.specs.Stages.{named, answersOpcode, opened, ninth, answersPlace, framed}
 use Rattle.chip.specs.Cycle.{running, due, whole, oneWay, flagsAfter}
 use Rattle.chip.specs.Memory.{programmed, acted}
 use Rattle.chip.specs.Take.{headOf, joined}

@@ -8,7 +8,7 @@ use mathlib.Core.Bool.{Bool, true, false}
 use borrow.Author.Tests.{le-leb, ltb-true, ltb-false, lt-ltb}
 use lib.Dec.{eqb, ltb, leb}
 use Rattle.bits.specs.Words.{pick, isNot}
-use Rattle.bits.specs.Bytes.{moreOf, opcodeOf, slaveOf, readOf, zoneOf, zoneOfLow}
+use Rattle.bits.specs.Bytes.{moreOf, opcodeOf, slaveOf, readOf, zoneOf, zoneOfLow, isFrozen, isLocked, zoneAt, nextIn}
 use Rattle.bits.specs.declared.Selector.{Selector}
 use Rattle.chip.specs.declared.Head.{Head}
 use Rattle.chip.specs.declared.Region.{Region}
@@ -22,7 +22,7 @@ use Rattle.chip.specs.declared.Stage.the-variants.{Standby, Address, Place, Dat
 use Rattle.chip.specs.declared.Opcode.{Opcode}
 use Rattle.chip.specs.declared.Opcode.the-variants.{Access, LockRegister, ZoneRegister, FreezeZones, ManufacturerId, StandardSpeed, HighSpeed, Unknown}
 use Rattle.chip.specs.declared.Framed.{Framed}
-use Rattle.chip.specs.Stages.{isFrozen, isLocked, zoneAt, named, answersOpcode, answersAddress, opened, answersPlace, addressIn, causedByPlace, afterEighth, nextByte, nextIn, oneMore, answersData, causedByData, framed}
+use Rattle.chip.specs.Stages.{named, answersOpcode, answersAddress, opened, answersPlace, addressIn, causedByPlace, afterEighth, nextByte, oneMore, answersData, causedByData, framed}
 use Rattle.chip.proofs.KeptLaws.{choice}
 use Rattle.chip.proofs.PageLaws.{rounds}
 use Rattle.table.specs.WellFormed.{highestIn, inZones, goodBits, mostTaken, goodSource}

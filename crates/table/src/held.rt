@@ -2,46 +2,14 @@
 ghost use mathlib.Core.Path.{_≡_};
 ghost use Rattle.bits.specs.Words.{isNot};
 ghost use Rattle.chip.specs.declared.Stage.the-variants.{Data, Programming};
-ghost use Rattle.chip.specs.Stages.{isRom, isFrozen, isLocked, zoneAt};
 ghost use Rattle.table.specs.WellFormed.{addressHeld, placeHeld, dataHeld, sourceHeld, goodHeld};
-use crate::ranges;
 use chip::Command;
 use chip::Device;
-use chip::FROZEN;
-use chip::LOCKED;
 use chip::Region;
 use chip::Source;
 use chip::Stage;
 
 const FIRST_USER: u8 = 16;
-
-fn thawed(flags: u8) -> bool
-    ensures { λ r. ⌜ r ≡ isNot (isFrozen flags) ⌝ }
-{
-    if bits::flag(flags, FROZEN) {
-        return false;
-    }
-    true
-}
-
-fn unlocked(flags: u8) -> bool
-    ensures { λ r. ⌜ r ≡ isNot (isLocked flags) ⌝ }
-{
-    if bits::flag(flags, LOCKED) {
-        return false;
-    }
-    true
-}
-
-// The zone of a main address is no ROM.
-fn open_zone(flags: u8, pointer: u8) -> bool
-    ensures { λ r. ⌜ r ≡ isNot (isRom flags (zoneAt pointer)) ⌝ }
-{
-    if bits::flag(flags, pointer % 128 / 32 % 4) {
-        return false;
-    }
-    true
-}
 
 fn address_held(d: Device, c: Command) -> bool
     ensures { λ r. ⌜ r ≡ addressHeld d c ⌝ }
@@ -51,7 +19,7 @@ fn address_held(d: Device, c: Command) -> bool
         Command::Lock => true,
         Command::Check => true,
         Command::Rom => true,
-        Command::Freeze => thawed(d.flags),
+        Command::Freeze => bits::thawed(d.flags),
     }
 }
 
@@ -60,8 +28,8 @@ fn place_held(d: Device, c: Command) -> bool
 {
     match c {
         Command::Page(_) => true,
-        Command::Lock => unlocked(d.flags),
-        Command::Check => unlocked(d.flags),
+        Command::Lock => bits::unlocked(d.flags),
+        Command::Check => bits::unlocked(d.flags),
         Command::Rom => true,
         Command::Freeze => true,
     }
@@ -71,10 +39,10 @@ fn page_held(d: Device, r: Region) -> bool
     ensures { λ r′. ⌜ r′ ≡ dataHeld d (Command.Page r) ⌝ }
 {
     match r {
-        Region::Main => open_zone(d.flags, d.pointer),
+        Region::Main => bits::open_zone(d.flags, d.pointer),
         Region::Security => {
             if FIRST_USER <= d.pointer {
-                return unlocked(d.flags);
+                return bits::unlocked(d.flags);
             }
             false
         }
@@ -88,7 +56,7 @@ fn data_held(d: Device, c: Command) -> bool
         Command::Page(r) => page_held(d, r),
         Command::Lock => true,
         Command::Check => true,
-        Command::Rom => thawed(d.flags),
+        Command::Rom => bits::thawed(d.flags),
         Command::Freeze => true,
     }
 }
@@ -100,7 +68,7 @@ fn source_held(d: Device, s: Source) -> bool
     match s {
         Source::Cells(_) => true,
         Source::Id(_) => true,
-        Source::Register => ranges::is_set(z),
+        Source::Register => bits::is_set(z),
     }
 }
 

@@ -1,6 +1,5 @@
 // The ranges of one device's pointer, selector and stage counts.
 ghost use mathlib.Core.Path.{_≡_};
-ghost use Rattle.chip.specs.Stages.{isSet};
 ghost use Rattle.table.specs.WellFormed.{highestIn, highestPointer, goodPointer, inZones, asksZone, pastZoneByte, goodSelector, goodBits, mostTaken, goodSource, goodCounts};
 use bits::Selector;
 use chip::Command;
@@ -57,15 +56,6 @@ pub fn good_pointer(d: Device) -> bool
 }
 
 // ---- the selector
-pub fn is_set(z: Selector) -> bool
-    ensures { λ r. ⌜ r ≡ isSet z ⌝ }
-{
-    match z {
-        Selector::Unset => false,
-        Selector::Zone(_) => true,
-    }
-}
-
 fn in_zones(z: Selector) -> bool
     ensures { λ r. ⌜ r ≡ inZones z ⌝ }
 {
@@ -107,7 +97,7 @@ pub fn good_selector(d: Device) -> bool
     let s = d.stage;
     if in_zones(z) {
         if past_zone_byte(s) {
-            return is_set(z);
+            return bits::is_set(z);
         }
         return true;
     }

@@ -10,8 +10,8 @@ enum-known-c c = search needs
 enum-told : tie.Need-enum-told
 enum-told c = search needs
 
-answers-main-requires : tie.Need-answers-main-requires
-answers-main-requires c κs = search needs
+open-zone-requires : tie.Need-open-zone-requires
+open-zone-requires c κs = search needs
 
 enum-told-2 : tie.Need-enum-told-2
 enum-told-2 c = search needs
@@ -38,7 +38,7 @@ returns : tie.Need-returns
 returns c = simp (eq-eqb _ _ (c .if1 .taken), c .before .enum-told6 .given .1)
 
 returns-2 : tie.Need-returns-2
-returns-2 c = simp (c .answers-main .ensures, c .before .enum-told .given .1, c .before .before .before .before .c .given .1)
+returns-2 c = simp (c .open-zone .ensures, c .before .enum-told .given .1, c .before .before .before .before .c .given .1)
 
 returns-3 : tie.Need-returns-3
 returns-3 c = simp (c .answers-security .ensures, c .before .enum-told2 .given .1, c .before .before .before .before .c .given .1)
@@ -61,7 +61,7 @@ answers-data-spec =
     (tie.spec
     enum-known-c
     enum-told
-    answers-main-requires
+    open-zone-requires
     enum-told-2
     answers-security-requires
     enum-told-3

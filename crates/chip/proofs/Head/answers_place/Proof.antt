@@ -30,6 +30,9 @@ is-set-requires c κs = search needs
 enum-told-5 : tie.Need-enum-told-5
 enum-told-5 c = search needs
 
+is-freeze-byte-requires : tie.Need-is-freeze-byte-requires
+is-freeze-byte-requires c κs = search needs
+
 returns : tie.Need-returns
 returns c = search needs
 
@@ -43,7 +46,7 @@ returns-4 : tie.Need-returns-4
 returns-4 c = simp (c .is-set .ensures, c .before .zone-of .ensures, c .before .before .enum-told4 .given .1)
 
 returns-5 : tie.Need-returns-5
-returns-5 c = simp (c .enum-told5 .given .1)
+returns-5 c = simp (c .is-freeze-byte .ensures, c .before .enum-told5 .given .1)
 
 pub answers-place-spec : {M : Type 1} → statement M
 answers-place-spec =
@@ -58,6 +61,7 @@ answers-place-spec =
     zone-of-requires
     is-set-requires
     enum-told-5
+    is-freeze-byte-requires
     returns
     returns-2
     returns-3

@@ -9,14 +9,14 @@ enum-known-s c = search needs
 enum-told : tie.Need-enum-told
 enum-told c = search needs
 
-add-result : tie.Need-add-result
-add-result c = search needs
+after-main-requires : tie.Need-after-main-requires
+after-main-requires c κs = search needs
 
 enum-told-2 : tie.Need-enum-told-2
 enum-told-2 c = search needs
 
-add-result-2 : tie.Need-add-result-2
-add-result-2 c = search needs
+after-security-requires : tie.Need-after-security-requires
+after-security-requires c κs = search needs
 
 enum-told-3 : tie.Need-enum-told-3
 enum-told-3 c = search needs
@@ -25,10 +25,10 @@ enum-told-4 : tie.Need-enum-told-4
 enum-told-4 c = search needs
 
 returns : tie.Need-returns
-returns c = simp (c .enum-told .given .1, c .before .before .before .s .given .1)
+returns c = simp (c .after-main .ensures, c .before .enum-told .given .1, c .before .before .before .before .s .given .1)
 
 returns-2 : tie.Need-returns-2
-returns-2 c = simp (c .enum-told2 .given .1, c .before .before .before .s .given .1)
+returns-2 c = simp (c .after-security .ensures, c .before .enum-told2 .given .1, c .before .before .before .before .s .given .1)
 
 returns-3 : tie.Need-returns-3
 returns-3 c = search needs
@@ -42,9 +42,9 @@ after-eighth-spec =
     (tie.spec
     enum-known-s
     enum-told
-    add-result
+    after-main-requires
     enum-told-2
-    add-result-2
+    after-security-requires
     enum-told-3
     enum-told-4
     returns

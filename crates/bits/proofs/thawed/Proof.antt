@@ -1,7 +1,7 @@
--- `chip::Head::thawed`: each return is its case of the definition, by the tests and calls that lead to it.
+-- `bits::thawed`: each return is its case of the definition, by the test that leads to it.
 use borrow.Author.Needs.{needs}
-use Rattle.chip.proofs.Head.thawed.Statement.{statement}
-use Rattle.chip.proofs.Head.thawed.Tie as tie
+use Rattle.bits.proofs.thawed.Statement.{statement}
+use Rattle.bits.proofs.thawed.Tie as tie
 
 flag-requires : tie.Need-flag-requires
 flag-requires c κs = search needs

@@ -1,7 +1,7 @@
--- `chip::Head::unlocked`: each return is its case of the definition, by the tests and calls that lead to it.
+-- `bits::unlocked`: each return is its case of the definition, by the test that leads to it.
 use borrow.Author.Needs.{needs}
-use Rattle.chip.proofs.Head.unlocked.Statement.{statement}
-use Rattle.chip.proofs.Head.unlocked.Tie as tie
+use Rattle.bits.proofs.unlocked.Statement.{statement}
+use Rattle.bits.proofs.unlocked.Tie as tie
 
 flag-requires : tie.Need-flag-requires
 flag-requires c κs = search needs
