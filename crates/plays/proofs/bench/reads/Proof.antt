@@ -5,16 +5,16 @@ use Rattle.plays.proofs.bench.reads.Statement.{statement}
 use Rattle.plays.proofs.bench.reads.Tie as tie
 
 abbrev Inv-loop : tie.InvT-loop
-Inv-loop t₀ byte₀ k₀ t byte k = k ≤ 8
+Inv-loop count devices₀ byte₀ k₀ devices byte k = k ≤ 8
 
 abbrev μ-loop : tie.MeasureT-loop
-μ-loop t₀ byte₀ k₀ t byte k = 8 - k
+μ-loop count devices₀ byte₀ k₀ devices byte k = 8 - k
 
 loop-holds : tie.Need-loop-holds Inv-loop μ-loop
 loop-holds c = search needs
 
-turn-requires : tie.Need-turn-requires Inv-loop μ-loop
-turn-requires c κs = search needs
+step-requires : tie.Need-step-requires Inv-loop μ-loop
+step-requires c κs = search needs
 
 level-requires : tie.Need-level-requires Inv-loop μ-loop
 level-requires c κs = search needs
@@ -31,8 +31,8 @@ loop-less c = search needs
 loop-again : tie.Need-loop-again Inv-loop μ-loop
 loop-again c = search needs
 
-turn-requires-2 : tie.Need-turn-requires-2 Inv-loop μ-loop
-turn-requires-2 c κs = search needs
+step-requires-2 : tie.Need-step-requires-2 Inv-loop μ-loop
+step-requires-2 c κs = search needs
 
 returns : tie.Need-returns Inv-loop μ-loop
 returns c = search needs
@@ -44,11 +44,11 @@ reads-spec =
     Inv-loop
     μ-loop
     loop-holds
-    turn-requires
+    step-requires
     level-requires
     more-requires
     add-k
     loop-less
     loop-again
-    turn-requires-2
+    step-requires-2
     returns)

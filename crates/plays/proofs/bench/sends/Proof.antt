@@ -5,10 +5,10 @@ use Rattle.plays.proofs.bench.sends.Statement.{statement}
 use Rattle.plays.proofs.bench.sends.Tie as tie
 
 abbrev Inv-loop : tie.InvT-loop
-Inv-loop byte t₀ k₀ t6 t7 t k = k ≤ 8
+Inv-loop byte count devices₀ k₀ t7 t8 devices k = k ≤ 8
 
 abbrev μ-loop : tie.MeasureT-loop
-μ-loop byte t₀ k₀ t6 t7 t k = 8 - k
+μ-loop byte count devices₀ k₀ t7 t8 devices k = 8 - k
 
 loop-holds : tie.Need-loop-holds Inv-loop μ-loop
 loop-holds c = search needs
@@ -16,8 +16,8 @@ loop-holds c = search needs
 bit-at-requires : tie.Need-bit-at-requires Inv-loop μ-loop
 bit-at-requires c κs = search needs
 
-turn-requires : tie.Need-turn-requires Inv-loop μ-loop
-turn-requires c κs = search needs
+step-requires : tie.Need-step-requires Inv-loop μ-loop
+step-requires c κs = search needs
 
 add-k : tie.Need-add-k Inv-loop μ-loop
 add-k c = search needs
@@ -43,8 +43,8 @@ slice-aggregate-write-2 c = search needs
 write-requires-2 : tie.Need-write-requires-2 Inv-loop μ-loop
 write-requires-2 c κs = search needs
 
-step-requires : tie.Need-step-requires Inv-loop μ-loop
-step-requires c κs = search needs
+step-requires-2 : tie.Need-step-requires-2 Inv-loop μ-loop
+step-requires-2 c κs = search needs
 
 returns : tie.Need-returns Inv-loop μ-loop
 returns c = search needs
@@ -57,7 +57,7 @@ sends-spec =
     μ-loop
     loop-holds
     bit-at-requires
-    turn-requires
+    step-requires
     add-k
     loop-less
     loop-again
@@ -66,5 +66,5 @@ sends-spec =
     byte-requires
     slice-aggregate-write-2
     write-requires-2
-    step-requires
+    step-requires-2
     returns)
