@@ -1,6 +1,5 @@
 // The C face: functions on bytes and numbers, declared in include/borewizard.h.
 ghost use mathlib.Core.Path.{_≡_};
-ghost use Prim.Native.Nat.{ℕ};
 ghost use lib.ListN.{length};
 ghost use Rattle.bus.specs.Run.{numberOf, eventCountOf, refusedCountOf, ranOf, busAfter, answersAfter};
 ghost use Rattle.image.specs.View.{viewFault, viewAt};

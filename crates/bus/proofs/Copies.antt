@@ -1,13 +1,13 @@
 -- Arrays filled from the front: a copy, and the places of the slave addresses, one element further.
-use Prim.Native.Nat.{ℕ, suc, _+_, _*_, _%_, _<_, _≤_}
+use Prim.Native.Nat.{ℕ, _+_, _%_, _<_}
 use native.Mathlib.Omega.{arith}
 use native.Mathlib.Numerals.{add-one}
 use native.Mathlib.Nat.{not-suc-le-zero}
-use mathlib.Core.Path.{_≡_, refl, sym, ap, _∙_}
+use mathlib.Core.Path.{_≡_, refl, sym, _∙_}
 use mathlib.Core.List.{List}
-use mathlib.Core.Logic.{_⊎_, inl, inr}
-use lib.ListN.{length, getD, set, take, drop}
-use lib.Seq.{take-suc, take-suc-set, take-all, getD-drop, getD-set-same, getD-set-other}
+use mathlib.Core.Logic.{inl, inr}
+use lib.ListN.{length, getD, set, take}
+use lib.Seq.{take-suc, take-suc-set, take-all, getD-set-same, getD-set-other}
 use Rattle.bits.proofs.Table.{last-or}
 use Rattle.chip.specs.declared.Head.{Head}
 use Rattle.bus.specs.Held.{blankHead, Differ, NamedIn}

@@ -27,7 +27,7 @@ use Rattle.chip.specs.declared.Event.the-variants.{Bit}
 use Rattle.chip.specs.Head.{at}
 use Rattle.chip.specs.Stages.{registerDrive, shows, framed}
 use Rattle.chip.specs.Cycle.{heard}
-use Rattle.chip.proofs.KeptLaws.{choice}
+use Rattle.bits.proofs.Choices.{choice}
 use Rattle.wire.specs.Wire.{busy, anyBusy, pulled}
 use Rattle.tape.specs.Tape.{eventsOf}
 use Rattle.image.specs.Layout.{recordSize}

@@ -1,15 +1,12 @@
 -- Heads, pages and the bus file hold a list of devices: what they tell of one of them, and how a turn of one changes them.
-use Prim.Native.Nat.{ℕ, zero, suc, _+_, _*_, _/_, _%_, _<_, _≤_}
+use Prim.Native.Nat.{ℕ, zero, suc, _+_, _*_, _%_, _<_}
 use native.Mathlib.Omega.{arith}
-use native.Mathlib.Nat.{not-suc-le-zero, le-of-suc-le-suc, mul-suc}
+use native.Mathlib.Nat.{not-suc-le-zero, le-of-suc-le-suc}
 use mathlib.Core.Path.{_≡_, refl, sym, ap, _∙_}
-use mathlib.Core.Bool.{Bool, true, false}
-use mathlib.Core.List.{List, [], _∷_, _++_, map, append-assoc, append-nil}
-use lib.ListN.{length, getD, set, take, drop, length-append, length-set, length-map, List·getD-map}
-use lib.Seq.{getD-set-same, getD-set-other, drop-set-lt}
-use borrow.Author.Tests.{eqb-true, eqb-false}
+use mathlib.Core.List.{List, [], _∷_, _++_, append-assoc, append-nil}
+use lib.ListN.{length, getD, set, take, drop, length-append, length-set}
+use lib.Seq.{drop-set-lt}
 use borrow.Rule.Slice.PartMut.{putMid}
-use lib.Dec.{eqb}
 use Rattle.bits.specs.Bytes.{bitAt}
 use Rattle.chip.specs.declared.Device.{Device}
 use Rattle.chip.specs.declared.Head.{Head}
@@ -25,17 +22,17 @@ use Rattle.chip.specs.declared.Act.{Act}
 use Rattle.chip.specs.declared.Act.the-variants.{Nothing, Put, Program}
 use Rattle.chip.specs.declared.Event.{Event}
 use Rattle.chip.specs.Cycle.{heard}
-use Rattle.chip.specs.Memory.{levelOf, burntTo, pageBase, programmed, acted}
+use Rattle.chip.specs.Memory.{levelOf, pageBase, acted}
 use Rattle.chip.specs.Take.{headOf, joined, takeOf}
-use Rattle.chip.specs.Kept.{FlagsAfter, Keeps}
+use Rattle.chip.specs.Kept.{FlagsAfter}
 use Rattle.chip.proofs.KeptLaws.{keeps}
 use Rattle.chip.proofs.PageLaws.{burns}
-use Rattle.faults.proofs.Chunks.{flat, flat-split, flat-set, Pieces, pieces-at, pieces-set, before, flat-length, part-is, part-put, part-at, part-set}
-use Rattle.image.specs.Layout.{recordSize, idAt, flagsAt, mainAt, mainSize, serialAt, userAt, userSize, reserved, mark}
+use Rattle.faults.proofs.Chunks.{flat, flat-split, flat-set, Pieces, before, part-is, part-put, part-at, part-set}
+use Rattle.image.specs.Layout.{recordSize, idAt, flagsAt, mainAt, mainSize, serialAt, userAt, userSize, reserved}
 use Rattle.image.specs.Image.{recordOf, savedOf}
 use Rattle.image.specs.Promises.{Sized}
 use Rattle.image.specs.InPlace.{InPlace}
-use Rattle.bus.specs.Held.{cellAt, levelIn, pageIn, burntIn, programmedIn, actedIn, putIn}
+use Rattle.bus.specs.Held.{levelIn, pageIn, burntIn, programmedIn, actedIn, putIn}
 
 abbrev pub pageOf : Device → List ℕ
 pageOf d = d .page
@@ -203,17 +200,6 @@ flat-same : (f : Device → List ℕ) (ds : List Device) (j : ℕ) (e : Device) 
 flat-same f ds j e h q = flat-set f ds j e h ∙ rw q (sym (flat-split f ds j blank h))
 
 -- what an act leaves of a device: its head, its lengths
-head-acted : (g : Head) (d : Device) (a : Act) → headOf (acted (joined g d) a) ≡ g
-unfolding acted
-head-acted g d Nothing = refl
-head-acted g d (Put k x) = refl
-head-acted g d (Program (Page Main) p t m) = refl
-head-acted g d (Program (Page Security) p t m) = refl
-head-acted g d (Program Lock p t m) = refl
-head-acted g d (Program Check p t m) = refl
-head-acted g d (Program Rom p t m) = refl
-head-acted g d (Program Freeze p t m) = refl
-
 page-acted : (g : Head) (d : Device) (c : Command) (p t m : ℕ) → pageOf (acted (joined g d) (Program c p t m)) ≡ pageOf d
 unfolding acted
 page-acted g d (Page Main) p t m = refl
@@ -322,10 +308,6 @@ module _ (ds : List Device) (j : ℕ) (h : j < length ds) (fit : AllFit ds) (g :
     pages-turn (Program r p t m) = q ∙ ap (λ (l : List ℕ). l ++ drop (8 * n) pages) (sym (flat-same pageOf ds j _ h (page-acted g that r p t m)))
 
 -- device j takes an event
-pub head-turn : (d : Device) (ev : Event) → headOf (takeOf d ev .device) ≡ heard (headOf d) ev .head
-unfolding takeOf
-head-turn d ev = head-acted (heard (headOf d) ev .head) d (heard (headOf d) ev .act)
-
 module _ (n : ℕ) (ds : List Device) (pages bus : List ℕ) (held : Held n ds pages bus) (j : ℕ) (small : j < n) where
   abbrev now : Device
   now = getD ds j blank

@@ -5,7 +5,7 @@ use mathlib.Core.Bool.{Bool, true, false}
 use native.Mathlib.Omega.{arith}
 use borrow.Author.Tests.{ne-eqb}
 use lib.Dec.{eqb, ltb}
-use Rattle.bits.specs.Words.{pick, isNot}
+use Rattle.bits.specs.Words.{pick}
 use Rattle.bits.specs.Bytes.{moreOf, opcodeOf, slaveOf, readOf}
 use Rattle.chip.specs.declared.Device.{Device}
 use Rattle.chip.specs.declared.Head.{Head}
@@ -24,10 +24,10 @@ use Rattle.chip.specs.declared.Event.{Event}
 use Rattle.chip.specs.declared.Event.the-variants.{Bit, Null, Wait, Reset, Cut}
 use Rattle.chip.specs.Head.{at, silent}
 use Rattle.chip.specs.Stages.{named, opened, answersAddress, answersPlace, answersData, causedByPlace, causedByData, nextByte, framed}
-use Rattle.chip.specs.Cycle.{running, due, nullOf, nulled, finished, resetOf, cutOf, heard}
+use Rattle.chip.specs.Cycle.{running, due, nullOf, nulled, finished, cutOf, heard}
 use Rattle.chip.specs.Memory.{levelOf, acted}
 use Rattle.chip.specs.Take.{headOf, joined, takeOf}
-use Rattle.chip.proofs.KeptLaws.{choice}
+use Rattle.bits.proofs.Choices.{choice}
 use Rattle.wire.specs.Wire.{busy}
 use Rattle.bus.specs.Held.{bitAfter, othersAfter, ninthDue, called, past}
 

@@ -1,15 +1,13 @@
 -- A run: what is left to do from a place of the event file ends as the whole does from its start.
-use Prim.Native.Nat.{ℕ, zero, suc, _+_, _-_, _*_, _<_, _≤_}
+use Prim.Native.Nat.{ℕ, _+_, _-_, _*_, _<_, _≤_}
 use native.Mathlib.Omega.{arith}
-use native.Mathlib.Nat.{not-suc-le-zero, le-of-suc-le-suc}
+use native.Mathlib.Nat.{not-suc-le-zero}
 use native.Mathlib.Numerals.{add-one}
 use mathlib.Core.Path.{_≡_, refl, sym, ap, subst, _∙_}
 use mathlib.Core.Bool.{Bool, true, false}
-use mathlib.Core.List.{List, [], _∷_, _++_, map}
-use borrow.Author.Tests.{eqb-true, eqb-false}
-use lib.Dec.{eqb}
-use lib.ListN.{length, getD, set, take, drop, replicate, length-drop, drop-of-length-le, List·getD-map, length-map}
-use lib.Seq.{sets, drop-drop, take-all, getD-take}
+use mathlib.Core.List.{List, [], _∷_}
+use lib.ListN.{length, getD, set, drop, length-drop, drop-of-length-le}
+use lib.Seq.{sets, drop-drop, take-all}
 use Rattle.bits.specs.Words.{pick}
 use Rattle.chip.specs.declared.Device.{Device}
 use Rattle.chip.specs.declared.Head.{Head}
@@ -17,8 +15,7 @@ use Rattle.chip.specs.declared.Framed.{Framed}
 use Rattle.chip.specs.declared.Stage.{Stage}
 use Rattle.chip.specs.declared.Stage.the-variants.{Standby}
 use Rattle.chip.specs.declared.Event.{Event}
-use Rattle.chip.specs.Take.{headOf}
-use Rattle.wire.specs.Wire.{anyBusy, barred, tableOf, nextOf, mastersLevel, wireOf, replied, answerOf, lastOf, answersOf, refusedOf}
+use Rattle.wire.specs.Wire.{anyBusy, barred, nextOf, mastersLevel, wireOf, replied, answerOf, lastOf, answersOf, refusedOf}
 use Rattle.tape.specs.Tape.{kindOf, sizeOf, eventOf, eventsFrom, eventsOf}
 use Rattle.tape.specs.Promises.{NoFault}
 use Rattle.tape.proofs.TapeLaws.{events-are, begins, scanned}
@@ -33,7 +30,6 @@ use Rattle.image.specs.InPlace.{InPlace}
 use Rattle.bus.specs.declared.Span.{Span}
 use Rattle.bus.specs.Held.{blankHead, standing, othersAfter, called, past, spanIn, spanOf, answerFrom, levelIn, pageIn, actedIn, putIn}
 use Rattle.bus.proofs.Held.{record-pieces}
-use Rattle.bus.proofs.Landing.{no}
 use Rattle.bus.proofs.Wired.{Wired, arrived, begun, ended, turned, span-fits}
 use Rattle.bus.proofs.Passing.{Passed}
 

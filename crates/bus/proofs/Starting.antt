@@ -2,30 +2,26 @@
 use Prim.Native.Nat.{ℕ, zero, suc, _+_, _*_, _<_, _≤_}
 use native.Mathlib.Omega.{arith}
 use native.Mathlib.Nat.{not-suc-le-zero, le-of-suc-le-suc}
-use mathlib.Core.Path.{_≡_, refl, sym, ap, subst, _∙_}
-use mathlib.Core.Bool.{Bool, true, false}
+use mathlib.Core.Path.{_≡_, refl, sym, ap, _∙_}
+use mathlib.Core.Bool.{false}
 use mathlib.Core.List.{List, [], _∷_, _++_, map}
-use lib.ListN.{length, getD, take, drop, replicate, take-append-drop, replicate-append-replicate, List·getD-map, length-take}
+use lib.ListN.{length, getD, take, drop, replicate, take-append-drop, replicate-append-replicate, List·getD-map}
 use lib.Seq.{getD-take, length-take-le}
-use Rattle.bits.specs.Words.{pick}
 use Rattle.chip.specs.declared.Device.{Device}
 use Rattle.chip.specs.declared.Head.{Head}
 use Rattle.chip.specs.declared.Stage.{Stage}
 use Rattle.chip.specs.declared.Stage.the-variants.{Standby}
 use Rattle.chip.specs.Head.{at}
 use Rattle.chip.specs.Take.{headOf}
-use Rattle.wire.specs.Wire.{busy, anyBusy}
+use Rattle.wire.specs.Wire.{anyBusy}
 use Rattle.faults.proofs.Chunks.{flat}
-use Rattle.tape.specs.Promises.{NoFault}
-use Rattle.tape.specs.Tape.{tapeFault, eventsOf}
-use Rattle.tape.proofs.TapeLaws.{scanned}
 use Rattle.image.specs.Scan.{busFault}
-use Rattle.image.specs.Image.{recordOf, savedOf, devicesOf}
-use Rattle.image.specs.Promises.{Sized, Stored, Rising, storedOf}
+use Rattle.image.specs.Image.{devicesOf}
+use Rattle.image.specs.Promises.{Stored, Rising, storedOf}
 use Rattle.image.proofs.Promised.{promised}
-use Rattle.bus.specs.Held.{blankHead, standing, Differ, NamedIn}
-use Rattle.bus.proofs.Held.{Held, Fits, AllFit, pageOf, blank, saved-flat}
-use Rattle.bus.proofs.Landing.{Apart, rests}
+use Rattle.bus.specs.Held.{blankHead, Differ, NamedIn}
+use Rattle.bus.proofs.Held.{AllFit, pageOf, blank, saved-flat}
+use Rattle.bus.proofs.Landing.{rests}
 use Rattle.bus.proofs.Passing.{standing-other}
 use Rattle.bus.proofs.Wired.{Wired}
 

@@ -8,25 +8,26 @@ use mathlib.Core.List.{List, [], _∷_}
 use mathlib.Core.Logic.{_⊎_, inl, inr}
 use borrow.Author.Tests.{ltb-true, ltb-false}
 use lib.Dec.{ltb}
-use lib.ListN.{length, getD, set, take}
+use lib.ListN.{length, getD, set}
 use lib.Seq.{take-all}
 use Rattle.bits.specs.Words.{pick}
 use Rattle.chip.specs.declared.Device.{Device}
 use Rattle.chip.specs.declared.Head.{Head}
 use Rattle.chip.specs.declared.Stage.{Stage}
-use Rattle.chip.specs.declared.Stage.the-variants.{Standby, Address, Place, Data, Sending, Programming}
+use Rattle.chip.specs.declared.Stage.the-variants.{Standby}
 use Rattle.chip.specs.declared.Event.{Event}
 use Rattle.chip.specs.declared.Event.the-variants.{Bit, Null, Wait, Reset, Cut}
 use Rattle.chip.specs.Cycle.{heard}
 use Rattle.chip.specs.Take.{headOf, takeOf}
-use Rattle.chip.proofs.KeptLaws.{choice, keeps}
+use Rattle.bits.proofs.Choices.{choice}
+use Rattle.chip.proofs.KeptLaws.{slave-after}
 use Rattle.wire.specs.Wire.{busy, anyBusy, barred, tableOf, pulled}
 use Rattle.image.specs.Layout.{recordSize}
 use Rattle.image.specs.InPlace.{InPlace}
 use Rattle.bus.specs.declared.Span.{Span}
 use Rattle.bus.specs.Held.{blankHead, standing, othersAfter, past, ninthDue, called, span, oneOf, spanIn, levelIn, pageIn, actedIn, putIn}
-use Rattle.bus.proofs.Held.{Held, blank, head-turn}
-use Rattle.bus.proofs.Landing.{Apart, Quiet, NotCalled, Passing, a-bit, a-null, a-wait, Resets, a-reset, a-cut, reset-rests, Free, Lands, lands, bit-others, apart-free, apart-after, no}
+use Rattle.bus.proofs.Held.{Held, blank}
+use Rattle.bus.proofs.Landing.{Apart, Quiet, Passing, a-bit, a-null, a-wait, a-reset, a-cut, reset-rests, Lands, lands, bit-others, apart-after, no}
 use Rattle.bus.proofs.Passing.{Passed, still, passed-none, passed-aside, passed-turn, passed-table, standing-other, standing-own}
 
 pub record Wired (n : ℕ) (ds : List Device) (who : List ℕ) (talker : ℕ) (others : Stage) (any : Bool) (hs : List Head) (pages bus : List ℕ) : Type 0 where
@@ -58,9 +59,6 @@ unfolding tableOf
 table-at ev [] k h = absurd (not-suc-le-zero h)
 table-at ev (d ∷ ds) zero h = refl
 table-at ev (d ∷ ds) (suc k) h = table-at ev ds k (le-of-suc-le-suc h)
-
-slave-kept : (d : Device) (ev : Event) → takeOf d ev .device .slave ≡ d .slave
-slave-kept d ev = ap (λ (h : Head). h .slave) (head-turn d ev) ∙ keeps (headOf d) ev .slave
 
 module _ {n : ℕ} {ds : List Device} {who : List ℕ} {talker : ℕ} {others : Stage} {any : Bool} {hs : List Head} {pages bus : List ℕ} (w : Wired n ds who talker others any hs pages bus) where
   abbrev seenAt : ℕ → Head
@@ -186,7 +184,7 @@ module _ {n : ℕ} {ds : List Device} {who : List ℕ} {talker : ℕ} {others : 
           beyond = p .beyond;
           alone = p .alone;
           programs = p .programs ∙ ap anyBusy (take-all n (p .es) (omega (arith, p .held .count)) ∙ t);
-          named = λ k h. rw (table-at ev ds k (omega (arith, ld)), slave-kept (getD ds k blank) ev) (w .named k h);
+          named = λ k h. rw (table-at ev ds k (omega (arith, ld)), slave-after (getD ds k blank) ev) (w .named k h);
         }
 
     -- ---- up to the span, through it, and on from it

@@ -1,9 +1,9 @@
 // What an event asks of a device's bytes, carried out in the bus file where they stand, and of its gathered page.
 ghost use mathlib.Core.Path.{_≡_};
-ghost use Prim.Native.Nat.{ℕ, _+_, _*_, _%_, _<_, _≤_};
-ghost use lib.ListN.{length, getD, take, drop, set};
+ghost use Prim.Native.Nat.{_+_, _*_, _%_, _<_, _≤_};
+ghost use lib.ListN.{length};
 ghost use Rattle.image.specs.Layout.{recordSize};
-ghost use Rattle.bus.specs.Held.{cellAt, levelIn, shownIn, pageIn, burntIn, programmedIn, actedIn, putIn};
+ghost use Rattle.bus.specs.Held.{cellAt, levelIn, shownIn, pageIn, programmedIn, actedIn, putIn};
 use chip::Act;
 use chip::Command;
 use chip::Drive;

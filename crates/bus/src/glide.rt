@@ -3,7 +3,7 @@ ghost use mathlib.Core.Path.{_≡_};
 ghost use Prim.Native.Nat.{_*_, _≤_};
 ghost use lib.ListN.{length};
 ghost use Rattle.image.specs.Layout.{recordSize};
-ghost use Rattle.bus.specs.Held.{byteOf, resumed, pointed, glided, driven, shownIn, Room, Frames, Glides};
+ghost use Rattle.bus.specs.Held.{byteOf, resumed, pointed, glided, driven, Room, Frames, Glides};
 use crate::Byte;
 use crate::Ended;
 use crate::Reached;

@@ -5,7 +5,6 @@ mod play;
 mod talk;
 
 ghost use mathlib.Core.Path.{_≡_};
-ghost use Prim.Native.Nat.{ℕ};
 ghost use lib.ListN.{length};
 ghost use Rattle.bus.specs.Read.{busRead};
 ghost use Rattle.bus.specs.Run.{ranOf, busAfter, answersAfter};

@@ -1,12 +1,13 @@
 -- No event changes part or slave address, and only the end of a one-way command's cycle changes the flags: by cases, as the definitions go.
 use Prim.Native.Nat.{ℕ, _%_}
-use mathlib.Core.Path.{_≡_, refl}
+use mathlib.Core.Path.{_≡_, refl, ap, _∙_}
 use mathlib.Core.Bool.{Bool, true, false}
 use lib.Dec.{eqb, ltb}
-use Rattle.bits.specs.Words.{pick}
 use Rattle.bits.specs.Bytes.{opcodeOf, readOf}
+use Rattle.bits.proofs.Choices.{choice}
+use Rattle.chip.specs.declared.Device.{Device}
 use Rattle.chip.specs.declared.Head.{Head}
-use Rattle.chip.specs.declared.Framed.{Framed}
+use Rattle.chip.specs.declared.Region.the-variants.{Main, Security}
 use Rattle.chip.specs.declared.Command.{Command}
 use Rattle.chip.specs.declared.Command.the-variants.{Page, Lock, Check, Rom, Freeze}
 use Rattle.chip.specs.declared.Stage.{Stage}
@@ -17,18 +18,16 @@ use Rattle.chip.specs.declared.Cycle.{Cycle}
 use Rattle.chip.specs.declared.Cycle.the-variants.{Idle, Of}
 use Rattle.chip.specs.declared.Drive.{Drive}
 use Rattle.chip.specs.declared.Drive.the-variants.{Free, Low}
-use Rattle.chip.specs.declared.Act.the-variants.{Nothing}
+use Rattle.chip.specs.declared.Act.{Act}
+use Rattle.chip.specs.declared.Act.the-variants.{Nothing, Put, Program}
 use Rattle.chip.specs.declared.Event.{Event}
 use Rattle.chip.specs.declared.Event.the-variants.{Bit, Null, Wait, Reset, Cut}
 use Rattle.chip.specs.Head.{framing}
 use Rattle.chip.specs.Stages.{named, opened, answersAddress, answersPlace, answersData, causedByPlace, causedByData, framed}
 use Rattle.chip.specs.Cycle.{running, due, nullOf, nulled, finished, resetOf, cutOf, heard}
+use Rattle.chip.specs.Memory.{acted}
+use Rattle.chip.specs.Take.{headOf, joined, takeOf}
 use Rattle.chip.specs.Kept.{Keeps}
-
--- either way of a choice
-pub choice : {A : Type 0} (P : A → Type 0) (t : Bool) {a b : A} → P a → P b → P (pick t a b)
-choice P true p q = p
-choice P false p q = q
 
 -- ---- bit frames
 keeps-opened : (h : Head) (o : Opcode) (rw : Bool) → Keeps h (record { head = opened h o rw; drive = Low; act = Nothing })
@@ -114,3 +113,25 @@ keeps h Null = keeps-null h (running (h .stage)) (due (h .stage))
 keeps h Wait = let k = keeps-null h (running (h .stage)) (due (h .stage)) in keeps-finished h (nulled h) (k .part) (k .slave) (k .flags) (running (nulled h .stage))
 keeps h Reset = keeps-reset h (running (h .stage))
 keeps h (Cut m) = keeps-cut h (running (h .stage)) m
+
+-- ---- the device: what an event asks of the bytes leaves the head alone
+pub head-acted : (g : Head) (d : Device) (a : Act) → headOf (acted (joined g d) a) ≡ g
+unfolding acted
+head-acted g d Nothing = refl
+head-acted g d (Put k x) = refl
+head-acted g d (Program (Page Main) p t m) = refl
+head-acted g d (Program (Page Security) p t m) = refl
+head-acted g d (Program Lock p t m) = refl
+head-acted g d (Program Check p t m) = refl
+head-acted g d (Program Rom p t m) = refl
+head-acted g d (Program Freeze p t m) = refl
+
+pub head-after : (d : Device) (ev : Event) → headOf (takeOf d ev .device) ≡ heard (headOf d) ev .head
+unfolding takeOf
+head-after d ev = head-acted (heard (headOf d) ev .head) d (heard (headOf d) ev .act)
+
+pub part-after : (d : Device) (ev : Event) → takeOf d ev .device .part ≡ d .part
+part-after d ev = ap (λ (h : Head). h .part) (head-after d ev) ∙ keeps (headOf d) ev .part
+
+pub slave-after : (d : Device) (ev : Event) → takeOf d ev .device .slave ≡ d .slave
+slave-after d ev = ap (λ (h : Head). h .slave) (head-after d ev) ∙ keeps (headOf d) ev .slave

@@ -1,6 +1,5 @@
 -- Null, Wait, Reset and Cut: how a cycle begins and ends.
 use Prim.Native.Nat.{ℕ, _%_}
-use mathlib.Core.Bool.{Bool, true, false}
 use lib.Dec.{eqb}
 use Rattle.bits.specs.Words.{pick}
 use Rattle.bits.specs.Bytes.{withFlag, maskByte}

@@ -1,5 +1,5 @@
 -- The stages: which byte is answered, what an answered byte causes, and what a bit frame does. In document 01's order and words.
-use Prim.Native.Nat.{ℕ, _+_, _-_, _*_, _/_, _%_}
+use Prim.Native.Nat.{ℕ, _+_, _%_}
 use mathlib.Core.Bool.{Bool, true, false}
 use lib.Dec.{eqb, ltb}
 use Rattle.bits.specs.Words.{pick, both, isNot}
@@ -22,7 +22,6 @@ use Rattle.chip.specs.declared.Opcode.{Opcode}
 use Rattle.chip.specs.declared.Opcode.the-variants.{Access, LockRegister, ZoneRegister, FreezeZones, ManufacturerId, StandardSpeed, HighSpeed, Unknown}
 use Rattle.chip.specs.declared.Drive.{Drive}
 use Rattle.chip.specs.declared.Drive.the-variants.{Free, Low, CellBit, IdBit}
-use Rattle.chip.specs.declared.Act.{Act}
 use Rattle.chip.specs.declared.Act.the-variants.{Nothing, Put}
 use Rattle.chip.specs.Head.{at, pointing, choosing, paced, framing, silent, answering}
 

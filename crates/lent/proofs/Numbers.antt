@@ -1,9 +1,9 @@
 -- A step and a save of a table by value: each case of their definitions, and that on a gathered list they are the list's own.
-use Prim.Native.Nat.{ℕ, suc, _*_, _<_, _≤_}
+use Prim.Native.Nat.{ℕ, _*_, _<_, _≤_}
 use native.Mathlib.Omega.{arith}
 use mathlib.Core.Path.{_≡_, refl, sym, ap, _∙_}
 use mathlib.Core.Bool.{Bool, true, false}
-use mathlib.Core.List.{List, [], _∷_}
+use mathlib.Core.List.{List}
 use borrow.Author.Tests.{ltb-true, ltb-false, eqb-true, eq-eqb, ne-eqb, le-ltb, lt-leb}
 use lib.Dec.{eqb, ltb}
 use lib.ListN.{length, take}
@@ -12,6 +12,7 @@ use Rattle.chip.specs.declared.Device.{Device}
 use Rattle.chip.specs.declared.Event.{Event}
 use Rattle.tape.specs.Tape.{kindEvent}
 use Rattle.wire.specs.Wire.{anyBusy, barred, tableOf, nextOf, answerOf}
+use Rattle.wire.proofs.Tables.{length-after}
 use Rattle.image.specs.Layout.{mostRecords, recordSize}
 use Rattle.image.specs.Image.{laid, savedOf, savedInto}
 use Rattle.table.specs.WellFormed.{wellFormed}
@@ -84,11 +85,6 @@ module _ (t : Table) (room : List ℕ) where
       rw (eq-eqb (saveNumberOf t (length room)) 0 e, le-ltb mostRecords (t .count) k, le-ltb (length room) (recordSize * t .count) h) (refl, refl)
 
 -- ---- the table that a list is gathered into
-pub length-after : (ds : List Device) (ev : Event) → length (tableOf ds ev) ≡ length ds
-unfolding tableOf
-length-after [] ev = refl
-length-after (d ∷ ds) ev = ap suc (length-after ds ev)
-
 module _ (ds : List Device) where
   first-is : gathered ds .count ≤ mostRecords → firstOf (gathered ds) ≡ ds
   unfolding gathered

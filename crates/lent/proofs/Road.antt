@@ -1,11 +1,11 @@
 -- The record of specs/Road.antt: the refusals change nothing, a done step keeps the table well-formed, and the steps of an event file are its run.
-use Prim.Native.Nat.{ℕ, _+_, _*_, _<_, _≤_}
+use Prim.Native.Nat.{ℕ, _*_, _<_, _≤_}
 use native.Mathlib.Omega.{arith}
 use mathlib.Core.Path.{_≡_, refl, sym, ap, _∙_}
 use mathlib.Core.Bool.{Bool, true, false}
-use mathlib.Core.List.{List, [], _∷_, map, append-nil}
+use mathlib.Core.List.{List, [], _∷_, map}
 use borrow.Author.Tests.{lt-ltb, le-ltb, eq-eqb, ne-eqb}
-use lib.ListN.{length, drop-of-length-le}
+use lib.ListN.{length}
 use Rattle.bits.specs.Words.{pick}
 use Rattle.chip.specs.declared.Region.the-variants.{Main, Security}
 use Rattle.chip.specs.declared.Command.the-variants.{Page, Lock, Check, Rom, Freeze}
@@ -23,13 +23,15 @@ use Rattle.tape.specs.Written.{Good, AllGood}
 use Rattle.tape.specs.Promises.{Bytes}
 use Rattle.tape.proofs.Promised as tape-laws
 use Rattle.wire.specs.Wire.{anyBusy, barred, tableOf, nextOf, answerOf, lastOf, answersOf}
+use Rattle.wire.proofs.Tables.{length-after}
 use Rattle.image.specs.Layout.{mostRecords, recordSize}
 use Rattle.image.specs.Scan.{busFault}
-use Rattle.image.specs.Image.{laid, devicesOf, savedOf}
-use Rattle.image.specs.Promises.{Sized, Rising, AllSized}
-use Rattle.image.specs.Promises.Rising.{none as none-rise, more as more-rise}
+use Rattle.image.specs.Image.{devicesOf, savedOf}
+use Rattle.image.specs.Promises.{Sized, AllSized}
 use Rattle.image.specs.Promises.AllSized.{none as none-sized, more as more-sized}
 use Rattle.image.proofs.Promised.{promised}
+use Rattle.image.proofs.Lists.{laid-all}
+use Rattle.image.proofs.Forth.{all-sized}
 use Rattle.table.specs.WellFormed.{wellFormed}
 use Rattle.table.proofs.Kept.{kept}
 use Rattle.lent.specs.declared.Stepped.{Stepped}
@@ -38,7 +40,7 @@ use Rattle.lent.specs.declared.Saved.the-variants.{Done}
 use Rattle.lent.specs.Step.{numberOf, answerByteOf, lastKind, stepNumber, steppedOf, stepAnswer}
 use Rattle.lent.specs.Save.{numberOf as savedNumberOf, saveNumber, saveAnswer, savedRoom}
 use Rattle.lent.specs.Road.{kindOf, maskOf, stepsOf, stepAnswers, Steps, Road}
-use Rattle.lent.proofs.Numbers.{good-of, many, length-after}
+use Rattle.lent.proofs.Numbers.{good-of, many}
 
 -- ---- one step, one save
 step-many : (ds : List Device) (kind : ℕ) → mostRecords < length ds → stepNumber ds kind ≡ 15
@@ -146,15 +148,7 @@ last-sized ds (ev ∷ evs) s =
     let r = last-sized (nextOf ds ev) evs (n .1) in
     (r .0 ∙ n .0, r .1)
 
-rising-sized : {least : ℕ} {ds : List Device} → Rising least ds → AllSized ds
-rising-sized none-rise = none-sized
-rising-sized (more-rise s r) = more-sized (s .sized) (rising-sized r)
-
 -- ---- a run
-over-all : (room l : List ℕ) → length room ≡ length l → laid room 0 l ≡ l
-unfolding laid
-over-all room l e = rw (drop-of-length-le room {i = 0 + length l} (omega (arith, e))) (append-nil l)
-
 module _ (bus tape : List ℕ) (e : busFault bus .number ≡ 0) (b : Bytes tape) where
   abbrev ds : List Device
   ds = devicesOf bus
@@ -166,11 +160,11 @@ module _ (bus tape : List ℕ) (e : busFault bus .number ≡ 0) (b : Bytes tape)
   good = tape-laws.promised .good tape b
 
   at-end : (length last ≡ length ds) × AllSized last
-  at-end = last-sized ds (eventsOf tape) (rising-sized (promised .rising bus e))
+  at-end = last-sized ds (eventsOf tape) (all-sized (promised .rising bus e))
 
   file-long : length (savedOf last) ≡ length bus
   file-long =
-      let s = promised .saved-length ds (rising-sized (promised .rising bus e)) in
+      let s = promised .saved-length ds (all-sized (promised .rising bus e)) in
       let l = ap length (promised .same-bytes bus e) in
       let n = at-end .0 in
       let z = promised .saved-length last (at-end .1) in
@@ -190,7 +184,7 @@ module _ (bus tape : List ℕ) (e : busFault bus .number ≡ 0) (b : Bytes tape)
 
     saved-file : savedRoom last room ≡ savedOf last
     unfolding savedRoom
-    saved-file = rw (eq-eqb (saveNumber last (length room)) 0 number-none) (over-all room (savedOf last) (h ∙ sym file-long))
+    saved-file = rw (eq-eqb (saveNumber last (length room)) 0 number-none) (laid-all room (savedOf last) (h ∙ sym file-long))
 
   steps-are : stepsOf ds (eventsOf tape) ≡ last
   steps-are = all-steps ds (eventsOf tape) (kept .load bus e) good

@@ -5,41 +5,26 @@ use native.Mathlib.Numerals.{add-one}
 use mathlib.Core.Path.{_≡_, refl, sym, ap, _∙_}
 use mathlib.Core.Bool.{Bool, true, false}
 use mathlib.Core.List.{List, [], _∷_}
-use lib.ListN.{length, getD, set, take, drop, length-take, drop-of-length-le}
+use lib.ListN.{length, getD, set, take}
 use Rattle.bits.specs.Words.{pick}
 use Rattle.chip.specs.declared.Device.{Device}
 use Rattle.chip.specs.declared.Taken.{Taken}
 use Rattle.chip.specs.declared.Event.{Event}
 use Rattle.chip.specs.Take.{takeOf}
+use Rattle.bits.proofs.Choices.{either-assoc}
 use Rattle.wire.specs.Wire.{busy, anyBusy, tableOf, pulled, mastersLevel, wireOf}
+use Rattle.table.proofs.Walk.{rest, rest-more, rest-none}
 use Rattle.lent.specs.Table.{overlaid}
-
--- what is left of the first n
-abbrev rest : List Device → ℕ → ℕ → List Device
-rest ds n i = drop i (take n ds)
-
-rest-more : (ds : List Device) (n i : ℕ) (x : Device) → i < n → n ≤ length ds → rest ds n i ≡ getD ds i x ∷ rest ds n (i + 1)
-rest-more ds zero i x h k = absurd (omega arith)
-rest-more [] (suc n) i x h k = absurd (omega arith)
-rest-more (d ∷ ds) (suc n) zero x h k = refl
-rest-more (d ∷ ds) (suc n) (suc i) x h k = let e : suc i + 1 ≡ suc (i + 1) = omega arith in rw e (rest-more ds n i x (omega arith) (omega arith))
-
-rest-none : (ds : List Device) (n i : ℕ) → n ≤ i → rest ds n i ≡ []
-rest-none ds n i h = drop-of-length-le (take n ds) {i = i} (simp length-take (omega arith))
 
 -- ---- whether a device programs
 abbrev pub Busied : List Device → ℕ → Bool → ℕ → Type 0
 Busied ds n any i = pick any true (anyBusy (rest ds n i)) ≡ anyBusy (take n ds)
 
-either-first : (a b c : Bool) → pick a true (pick b true c) ≡ pick (pick a true b) true c
-either-first true b c = refl
-either-first false b c = refl
-
 module _ (ds : List Device) (n : ℕ) (any : Bool) (i : ℕ) (r : Busied ds n any i) where
   pub busied-more : (x : Device) (b any′ : Bool) → b ≡ busy (getD ds i x .stage) → any′ ≡ pick any true b → i < n → n ≤ length ds → Busied ds n any′ (i + 1)
   unfolding anyBusy
   busied-more x b any′ e f h k =
-      rw (f, e) (sym (sym r ∙ ap (λ (l : List Device). pick any true (anyBusy l)) (rest-more ds n i x h k) ∙ either-first any (busy (getD ds i x .stage)) (anyBusy (rest ds n (i + 1)))))
+      rw (f, e) (sym (sym r ∙ ap (λ (l : List Device). pick any true (anyBusy l)) (rest-more ds n i x h k) ∙ either-assoc any (busy (getD ds i x .stage)) (anyBusy (rest ds n (i + 1)))))
 
   pub busied-all : n ≤ i → any ≡ anyBusy (take n ds)
   unfolding anyBusy

@@ -8,7 +8,6 @@ use mathlib.Core.Option.{none}
 use borrow.Author.Tests.{lt-ltb, ne-eqb}
 use lib.Dec.{eqb, ltb}
 use lib.ListN.{length, length-set}
-use Rattle.bits.specs.Words.{pick}
 use Rattle.bits.specs.Bytes.{moreOf, opcodeOf, readOf}
 use Rattle.chip.specs.declared.Device.{Device}
 use Rattle.chip.specs.declared.Head.{Head}
@@ -31,6 +30,7 @@ use Rattle.chip.specs.Stages.{named, answersAddress, opened, answersPlace, caus
 use Rattle.chip.specs.Cycle.{running, due, heard}
 use Rattle.chip.specs.Memory.{acted}
 use Rattle.chip.specs.Take.{headOf, joined, takeOf}
+use Rattle.bits.proofs.Choices.{choice}
 use Rattle.reading.specs.Stretch.{byteOf, bytesOf}
 use Rattle.reading.specs.Demand.{storedOf}
 
@@ -56,10 +56,6 @@ pub bits-snoc : (d : Device) (bs : List ℕ) (b : ℕ) → bitsTo d (bs ++ (b �
 unfolding bitsTo
 bits-snoc d [] b = refl
 bits-snoc d (a ∷ bs) b = bits-snoc (bitTo d a) bs b
-
-pub either : {A : Type 0} (P : A → Type 0) (t : Bool) {a b : A} → P a → P b → P (pick t a b)
-either P true f g = f
-either P false f g = g
 
 -- ---- bits leave what is stored alone
 pub record Kept (d e : Device) : Type 0 where
@@ -107,12 +103,12 @@ mild-data h Freeze t x = (refl, refl, refl, tt)
 mild : (h : Head) (s : Stage) (b : ℕ) → Mild h (framed h s b)
 mild h Standby b = (refl, refl, refl, tt)
 mild h (Address n x) b =
-    either (Mild h) (ltb n 8) (refl, refl, refl, tt) (either (Mild h) (answersAddress h x) (mild-opened h (named (opcodeOf x)) (readOf x)) (refl, refl, refl, tt))
-mild h (Place c n x) b = either (Mild h) (ltb n 8) (refl, refl, refl, tt) (either (Mild h) (answersPlace h c x) (mild-place h c x) (refl, refl, refl, tt))
-mild h (Data c t n x) b = either (Mild h) (ltb n 8) (refl, refl, refl, tt) (either (Mild h) (answersData h c t x) (mild-data h c t x) (refl, refl, refl, tt))
+    choice (Mild h) (ltb n 8) (refl, refl, refl, tt) (choice (Mild h) (answersAddress h x) (mild-opened h (named (opcodeOf x)) (readOf x)) (refl, refl, refl, tt))
+mild h (Place c n x) b = choice (Mild h) (ltb n 8) (refl, refl, refl, tt) (choice (Mild h) (answersPlace h c x) (mild-place h c x) (refl, refl, refl, tt))
+mild h (Data c t n x) b = choice (Mild h) (ltb n 8) (refl, refl, refl, tt) (choice (Mild h) (answersData h c t x) (mild-data h c t x) (refl, refl, refl, tt))
 mild h (Sending s n) b =
-    either (Mild h) (ltb n 7) (refl, refl, refl, tt)
-    (either (Mild h) (eqb n 7) (refl, refl, refl, tt) (either (Mild h) (eqb (b % 2) 0) (refl, refl, refl, tt) (refl, refl, refl, tt)))
+    choice (Mild h) (ltb n 7) (refl, refl, refl, tt)
+    (choice (Mild h) (eqb n 7) (refl, refl, refl, tt) (choice (Mild h) (eqb (b % 2) 0) (refl, refl, refl, tt) (refl, refl, refl, tt)))
 mild h (Programming c t) b = (refl, refl, refl, tt)
 
 tame : (d : Device) (h : Head) (a : Act) → h .part ≡ d .part → h .slave ≡ d .slave → h .flags ≡ d .flags → Tame a → Kept d (acted (joined h d) a)
@@ -154,7 +150,7 @@ QuietTo d f = Quiet (carried d f .stage)
 
 quiet-next : (s : Source) → Quiet (nextByte s)
 quiet-next (Cells r) = tt
-quiet-next (Id k) = either Quiet (ltb k 2) tt tt
+quiet-next (Id k) = choice Quiet (ltb k 2) tt tt
 quiet-next Register = tt
 
 quiet-bit : (d : Device) (h : Head) (s : Stage) (b : ℕ) → Quiet s → QuietTo d (framed h s b)
@@ -164,7 +160,7 @@ quiet-bit d h (Address n x) b q = absurd q
 quiet-bit d h (Place c n x) b q = absurd q
 quiet-bit d h (Data c t n x) b q = absurd q
 quiet-bit d h (Sending s n) b q =
-    either (QuietTo d) (ltb n 7) tt (either (QuietTo d) (eqb n 7) tt (either (QuietTo d) (eqb (b % 2) 0) (quiet-next s) tt))
+    choice (QuietTo d) (ltb n 7) tt (choice (QuietTo d) (eqb n 7) tt (choice (QuietTo d) (eqb (b % 2) 0) (quiet-next s) tt))
 quiet-bit d h (Programming c t) b q = absurd q
 
 quiet-now : (d : Device) (s : Stage) → d .stage ≡ s → Quiet s → NotReady d

@@ -11,21 +11,18 @@ use Rattle.bits.specs.declared.Selector.the-variants.{Unset, Zone}
 use Rattle.bits.proofs.Table.{All, each}
 use Rattle.chip.specs.declared.Device.{Device}
 use Rattle.chip.specs.declared.Head.{Head}
-use Rattle.chip.specs.declared.Region.the-variants.{Main, Security}
 use Rattle.chip.specs.declared.Command.{Command}
 use Rattle.chip.specs.declared.Command.the-variants.{Page, Lock, Check, Rom, Freeze}
 use Rattle.chip.specs.declared.Stage.{Stage}
 use Rattle.chip.specs.declared.Stage.the-variants.{Standby, Address, Place, Data, Sending, Programming}
 use Rattle.chip.specs.declared.Cycle.{Cycle}
 use Rattle.chip.specs.declared.Cycle.the-variants.{Idle, Of}
-use Rattle.chip.specs.declared.Act.{Act}
-use Rattle.chip.specs.declared.Act.the-variants.{Nothing, Put, Program}
 use Rattle.chip.specs.declared.Event.{Event}
 use Rattle.chip.specs.declared.Event.the-variants.{Bit, Null, Wait, Reset, Cut}
 use Rattle.chip.specs.Cycle.{running, due, nullOf, nulled, oneWay, romBit, flagsAfter, whole, finished, resetOf, cutOf, heard}
-use Rattle.chip.specs.Memory.{acted}
-use Rattle.chip.specs.Take.{headOf, joined, takeOf}
-use Rattle.chip.proofs.KeptLaws.{choice}
+use Rattle.chip.specs.Take.{headOf, takeOf}
+use Rattle.bits.proofs.Choices.{choice}
+use Rattle.chip.proofs.KeptLaws.{head-after}
 use Rattle.image.specs.Layout.{highestFlags}
 use Rattle.table.specs.WellFormed.{mostTaken, addressHeld, placeHeld, dataHeld, goodDevice}
 use Rattle.table.proofs.Both.{both-of, of-both, chosen}
@@ -119,22 +116,6 @@ good-heard h Null g = good-null h (h .stage) refl g
 good-heard h Wait g = good-finished (nulled h) (running (nulled h .stage)) (good-null h (h .stage) refl g)
 good-heard h Reset g = good-reset h (running (h .stage)) g
 good-heard h (Cut m) g = good-cut h (running (h .stage)) m g
-
--- what an event asks of the bytes leaves the head alone
-head-acted : (g : Head) (d : Device) (a : Act) → headOf (acted (joined g d) a) ≡ g
-unfolding acted
-head-acted g d Nothing = refl
-head-acted g d (Put k x) = refl
-head-acted g d (Program (Page Main) p t m) = refl
-head-acted g d (Program (Page Security) p t m) = refl
-head-acted g d (Program Lock p t m) = refl
-head-acted g d (Program Check p t m) = refl
-head-acted g d (Program Rom p t m) = refl
-head-acted g d (Program Freeze p t m) = refl
-
-pub head-after : (d : Device) (ev : Event) → headOf (takeOf d ev .device) ≡ heard (headOf d) ev .head
-unfolding takeOf
-head-after d ev = head-acted (heard (headOf d) ev .head) d (heard (headOf d) ev .act)
 
 pub good-after : (d : Device) (ev : Event) → d .flags ≤ highestFlags → goodDevice d ≡ true → (takeOf d ev .device .flags ≤ highestFlags) × (goodDevice (takeOf d ev .device) ≡ true)
 good-after d ev h e =

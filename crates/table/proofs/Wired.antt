@@ -27,12 +27,12 @@ use Rattle.chip.specs.declared.Event.the-variants.{Bit, Null, Wait, Reset, Cut}
 use Rattle.chip.specs.Stages.{named, opened, answersAddress, answersPlace, answersData, causedByPlace, causedByData, nextByte, framed}
 use Rattle.chip.specs.Cycle.{running, due, nullOf, nulled, finished, resetOf, cutOf, heard}
 use Rattle.chip.specs.Take.{headOf, takeOf}
-use Rattle.chip.proofs.KeptLaws.{choice}
+use Rattle.bits.proofs.Choices.{choice}
 use Rattle.wire.specs.Wire.{busy, anyBusy, barred, tableOf}
 use Rattle.table.specs.WellFormed.{goodLoad, goodLoads}
 use Rattle.table.proofs.Both.{no, both-of}
 use Rattle.table.proofs.Well.{above-least}
-use Rattle.table.proofs.KeptEvents.{head-after}
+use Rattle.chip.proofs.KeptLaws.{head-after}
 use Rattle.table.proofs.Scenes.{Near, Rests, Begins, Speaks, Cycles, Each, each-map, One, Scene}
 use Rattle.table.proofs.Scenes.Near.{rests, reads}
 use Rattle.table.proofs.Scenes.Rests.{stands}

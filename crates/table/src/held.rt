@@ -1,6 +1,5 @@
 // The answered bytes that a stage presupposes: none that the rules would not answer.
 ghost use mathlib.Core.Path.{_≡_};
-ghost use Rattle.bits.specs.Words.{isNot};
 ghost use Rattle.chip.specs.declared.Stage.the-variants.{Data, Programming};
 ghost use Rattle.table.specs.WellFormed.{addressHeld, placeHeld, dataHeld, sourceHeld, goodHeld};
 use chip::Command;

@@ -1,7 +1,7 @@
 -- No answer of an event that is carried out is 80h: the wire is 0 or 1.
-use Prim.Native.Nat.{ℕ, _+_, _%_, _≤_}
+use Prim.Native.Nat.{ℕ, _≤_}
 use native.Mathlib.Omega.{arith}
-use mathlib.Core.Path.{_≡_, refl, ap, _∙_}
+use mathlib.Core.Path.{_≡_, refl}
 use mathlib.Core.Bool.{Bool, true, false}
 use mathlib.Core.List.{List, [], _∷_}
 use borrow.Author.Tests.{ne-eqb}
@@ -11,7 +11,7 @@ use Rattle.chip.specs.declared.Device.{Device}
 use Rattle.chip.specs.declared.Event.{Event}
 use Rattle.chip.specs.declared.Event.the-variants.{Bit, Null, Wait, Reset, Cut}
 use Rattle.chip.specs.Take.{takeOf}
-use Rattle.chip.proofs.KeptLaws.{choice}
+use Rattle.bits.proofs.Choices.{choice}
 use Rattle.wire.specs.Wire.{anyBusy, barred, nextOf, mastersLevel, pulled, wireOf, replied, answerOf, answersOf, refusedOf}
 use Rattle.wire.specs.Promises.{count80, Promises}
 

@@ -1,7 +1,7 @@
 // The wire as a whole: which events are carried out, its level, and the answer byte.
 ghost use mathlib.Core.Path.{_≡_};
 ghost use mathlib.Core.Bool.{true, false};
-ghost use Prim.Native.Nat.{ℕ, _%_};
+ghost use Prim.Native.Nat.{_%_};
 ghost use Rattle.bits.specs.Words.{pick};
 ghost use Rattle.wire.specs.Wire.{busy, barred, mastersLevel, pulled, replied};
 use chip::Cycle;
