@@ -19,6 +19,9 @@ use tape::SHORT;
 // The first kind that is no bit frame.
 const NULL: u8 = 2;
 
+// What is put out where nobody drives the wire.
+const SILENT: u8 = 255;
+
 // Frames from the byte `start` of the event file on, until the byte's ninth is due or another event comes; `shown` is put out.
 fn frames(
     tape: &[u8],
@@ -50,6 +53,24 @@ fn frames(
         i += 1;
     }
     reached(at, i, n, x)
+}
+
+// The same; frames in which nothing is put out, the most, have the loop with that constant in it.
+fn frames_of(
+    tape: &[u8],
+    start: usize,
+    answers: &mut [u8],
+    first: usize,
+    under: Byte,
+    shown: u8,
+) -> Reached
+    requires { ⌜ Room (now tape) start first (length (now answers)) ⌝ }
+    ensures { λ r. ⌜ Frames (now (tape .entry)) shown start first (under .count) (under .bits) (now (answers .entry)) (r .at) (r .i) (r .count) (r .bits) (now (answers .exit)) ⌝ }
+{
+    if shown == SILENT {
+        return frames(tape, start, answers, first, under, SILENT);
+    }
+    frames(tape, start, answers, first, under, shown)
 }
 
 fn reached(at: usize, i: usize, count: u8, bits: u8) -> Reached
@@ -154,14 +175,14 @@ pub fn glide(
     if talker < count {
         let s = h.stage;
         let shown = act::shown(bus, RECORD_SIZE * talker, driven(h, s));
-        let r = frames(tape, at, answers, i, byte_of(s), shown);
+        let r = frames_of(tape, at, answers, i, byte_of(s), shown);
         let b = Byte {
             count: r.count,
             bits: r.bits,
         };
         return ended(others, glided(h, b), r);
     }
-    let r = frames(tape, at, answers, i, byte_of(others), 255);
+    let r = frames(tape, at, answers, i, byte_of(others), SILENT);
     let b = Byte {
         count: r.count,
         bits: r.bits,
