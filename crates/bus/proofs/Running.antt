@@ -15,7 +15,7 @@ use Rattle.chip.specs.declared.Framed.{Framed}
 use Rattle.chip.specs.declared.Stage.{Stage}
 use Rattle.chip.specs.declared.Stage.the-variants.{Standby}
 use Rattle.chip.specs.declared.Event.{Event}
-use Rattle.wire.specs.Wire.{anyBusy, barred, nextOf, mastersLevel, wireOf, replied, answerOf, lastOf, answersOf, refusedOf}
+use Rattle.wire.specs.Wire.{anyBusy, barred, nextOf, mastersLevel, wireOf, replied, answerFrom, answerOf, lastOf, answersOf, refusedOf}
 use Rattle.tape.specs.Tape.{kindOf, sizeOf, eventOf, eventsFrom, eventsOf}
 use Rattle.tape.specs.Promises.{NoFault}
 use Rattle.tape.proofs.TapeLaws.{events-are, begins, scanned}
@@ -28,7 +28,7 @@ use Rattle.wire.specs.Wire.{busy, pulled}
 use Rattle.image.specs.Layout.{recordSize}
 use Rattle.image.specs.InPlace.{InPlace}
 use Rattle.bus.specs.declared.Span.{Span}
-use Rattle.bus.specs.Held.{blankHead, standing, othersAfter, called, past, spanIn, spanOf, answerFrom, levelIn, pageIn, actedIn, putIn}
+use Rattle.bus.specs.Held.{blankHead, standing, othersAfter, called, past, spanIn, spanOf, levelIn, pageIn, actedIn, putIn}
 use Rattle.bus.proofs.Held.{record-pieces}
 use Rattle.bus.proofs.Wired.{Wired, arrived, begun, ended, turned, span-fits}
 use Rattle.bus.proofs.Passing.{Passed}

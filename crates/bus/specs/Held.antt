@@ -29,7 +29,7 @@ use Rattle.chip.specs.Memory.{burntTo, pageBase}
 use Rattle.tape.specs.Tape.{eventsOf}
 use Rattle.tape.specs.Promises.{NoFault}
 use Rattle.image.specs.Layout.{recordSize, idAt, flagsAt, mainAt, mainSize, serialAt, userAt, userSize}
-use Rattle.wire.specs.Wire.{pulled, replied}
+use Rattle.wire.specs.Wire.{pulled}
 use Rattle.bus.specs.declared.Span.{Span}
 use Rattle.bus.specs.declared.Byte.{Byte}
 
@@ -112,9 +112,6 @@ past (Sending s n) = true
 past (Programming c t) = true
 
 -- ---- what it answers
-abbrev pub answerFrom : Bool → Event → ℕ → ℕ
-answerFrom barred ev level = pick barred 0x80 (replied ev level)
-
 -- where a region's cell stands in its record
 abbrev pub cellAt : Region → ℕ → ℕ
 cellAt Main p = mainAt + p % 128

@@ -11,7 +11,7 @@ ghost use Rattle.wire.specs.Wire.{lastOf, answersOf, refusedOf};
 ghost use Rattle.tape.specs.Tape.{tapeFault, eventsOf};
 ghost use Rattle.image.specs.Scan.{busFault};
 ghost use Rattle.image.specs.Image.{devicesOf, savedOf};
-ghost use Rattle.bus.specs.Held.{answerFrom, NamedIn};
+ghost use Rattle.bus.specs.Held.{NamedIn};
 use crate::act;
 use crate::glide;
 use crate::talk;
@@ -63,15 +63,6 @@ fn counted(barred: bool) -> usize
         return 1;
     }
     0
-}
-
-fn answer(barred: bool, ev: Event, level: u8) -> u8
-    ensures { λ r. ⌜ r ≡ answerFrom barred ev level ⌝ }
-{
-    if barred {
-        return wire::NOT_CARRIED_OUT;
-    }
-    wire::replied(ev, level)
 }
 
 // What was, where an event is not carried out; else what is now.
@@ -147,7 +138,7 @@ pub fn play(
         others = talk::others_after(barred, ev, others);
         talker = kept(barred, talker, next);
         any = still(barred, any, busy);
-        answers[i] = answer(barred, ev, low);
+        answers[i] = wire::answer(barred, ev, low);
         refused += counted(barred);
         at += read.size;
         i += 1;

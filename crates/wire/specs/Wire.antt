@@ -65,9 +65,12 @@ replied Wait wire = 0x03
 replied Reset wire = pick (eqb wire 0) 0x04 0x05
 replied (Cut m) wire = pick (eqb wire 0) 0x04 0x05
 
--- "the answer byte is 80h"
+-- of an event that is not: "the answer byte is 80h"
+abbrev pub answerFrom : Bool → Event → ℕ → ℕ
+answerFrom barred ev wire = pick barred 0x80 (replied ev wire)
+
 unfoldable pub answerOf : List Device → Event → ℕ
-answerOf ds ev = pick (barred ev (anyBusy ds)) 0x80 (replied ev (wireOf ds ev (mastersLevel ev)))
+answerOf ds ev = answerFrom (barred ev (anyBusy ds)) ev (wireOf ds ev (mastersLevel ev))
 
 -- ---- a list of events: the devices after it, its answers, and how many of its events are not carried out
 unfoldable pub lastOf : List Device → List Event → List Device

@@ -3,7 +3,7 @@ ghost use mathlib.Core.Path.{_≡_};
 ghost use mathlib.Core.Bool.{true, false};
 ghost use Prim.Native.Nat.{_%_};
 ghost use Rattle.bits.specs.Words.{pick};
-ghost use Rattle.wire.specs.Wire.{busy, barred, mastersLevel, pulled, replied};
+ghost use Rattle.wire.specs.Wire.{busy, barred, mastersLevel, pulled, replied, answerFrom};
 use chip::Cycle;
 use chip::Event;
 use chip::Stage;
@@ -87,4 +87,14 @@ pub fn replied(ev: Event, wire: u8) -> u8
         Event::Reset => presence(wire),
         Event::Cut(_) => presence(wire),
     }
+}
+
+// The answer byte of any event; `barred`: it is not carried out.
+pub fn answer(barred: bool, ev: Event, wire: u8) -> u8
+    ensures { λ r. ⌜ r ≡ answerFrom barred ev wire ⌝ }
+{
+    if barred {
+        return NOT_CARRIED_OUT;
+    }
+    replied(ev, wire)
 }

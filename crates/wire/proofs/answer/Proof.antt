@@ -1,7 +1,7 @@
--- `bus::play::answer`: each return is its case of the definition, by the tests and calls that lead to it.
+-- `wire::answer`: each return is its case of the definition, by the tests and calls that lead to it.
 use borrow.Author.Needs.{needs}
-use Rattle.bus.proofs.play.answer.Statement.{statement}
-use Rattle.bus.proofs.play.answer.Tie as tie
+use Rattle.wire.proofs.answer.Statement.{statement}
+use Rattle.wire.proofs.answer.Tie as tie
 
 returns : tie.Need-returns
 returns c = search needs
