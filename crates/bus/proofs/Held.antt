@@ -32,7 +32,7 @@ use Rattle.image.specs.Layout.{recordSize, idAt, flagsAt, mainAt, mainSize, ser
 use Rattle.image.specs.Image.{recordOf, savedOf}
 use Rattle.image.specs.Promises.{Sized}
 use Rattle.image.specs.InPlace.{InPlace}
-use Rattle.bus.specs.Held.{levelIn, pageIn, burntIn, programmedIn, actedIn, putIn}
+use Rattle.bus.specs.Held.{shownIn, levelIn, pageIn, burntIn, programmedIn, actedIn, putIn}
 
 abbrev pub pageOf : Device → List ℕ
 pageOf d = d .page
@@ -182,7 +182,7 @@ module _ (ds : List Device) (j : ℕ) (h : j < length ds) (fit : AllFit ds) (bac
       ∙ piece-at ds j blank h fit [] (recordOf this) [] 0 recordSize refl (record-length this its) (sym (append-nil (recordOf this))) i q
 
   pub level-held : (v : Drive) → levelIn (flat recordOf ds) (recordSize * j) v ≡ levelOf this v
-  unfolding levelIn levelOf
+  unfolding levelIn shownIn levelOf
   level-held Free = refl
   level-held Low = refl
   level-held (CellBit Main p n) = ap (λ (x : ℕ). bitAt x n) (record-at (mainAt + p % 128) (omega arith) ∙ back .main-read this its (p % 128) (omega arith))

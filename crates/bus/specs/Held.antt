@@ -117,12 +117,19 @@ abbrev pub cellAt : Region → ℕ → ℕ
 cellAt Main p = mainAt + p % 128
 cellAt Security p = serialAt + p % 32
 
--- the level of a drive, by the record that begins at `from`
+-- the byte whose bits a drive shows, by the record that begins at `from`; all ones where the wire is left free
+unfoldable pub shownIn : List ℕ → ℕ → Drive → ℕ
+shownIn bus from Free = 255
+shownIn bus from Low = 0
+shownIn bus from (CellBit r p n) = getD bus (from + cellAt r p) 0
+shownIn bus from (IdBit k n) = getD bus (from + idAt + k % 3) 0
+
+-- the level of a drive
 unfoldable pub levelIn : List ℕ → ℕ → Drive → ℕ
 levelIn bus from Free = 1
 levelIn bus from Low = 0
-levelIn bus from (CellBit r p n) = bitAt (getD bus (from + cellAt r p) 0) n
-levelIn bus from (IdBit k n) = bitAt (getD bus (from + idAt + k % 3) 0) n
+levelIn bus from (CellBit r p n) = bitAt (shownIn bus from (CellBit r p n)) n
+levelIn bus from (IdBit k n) = bitAt (shownIn bus from (IdBit k n)) n
 
 -- ---- frames that only move a byte on
 -- A byte under way is how many of its bits came or went, and their value. The frames before its ninth change nothing else, but for the pointer after the eighth bit of
@@ -159,13 +166,6 @@ pointed h (Programming c t) k = h
 
 abbrev pub glided : Head → Byte → Head
 glided h b = at (pointed h (h .stage) (b .count)) (resumed (h .stage) b)
-
--- the byte whose bits a drive shows; all ones where the wire is left free
-unfoldable pub shownIn : List ℕ → ℕ → Drive → ℕ
-shownIn bus from Free = 255
-shownIn bus from Low = 0
-shownIn bus from (CellBit r p n) = getD bus (from + cellAt r p) 0
-shownIn bus from (IdBit k n) = getD bus (from + idAt + k % 3) 0
 
 -- what a stage puts out
 abbrev pub driven : Head → Stage → Drive

@@ -25,25 +25,6 @@ fn cell_at(r: Region, p: u8) -> usize
     }
 }
 
-// The level of a drive, by the bytes of the record that begins at `from`.
-pub fn level(bus: &[u8], from: usize, v: Drive) -> u8
-    requires { ⌜ from + recordSize ≤ length (now bus) ⌝ }
-    ensures { λ r. ⌜ r ≡ levelIn (now (bus .entry)) from v ⌝ }
-{
-    match v {
-        Drive::Free => 1,
-        Drive::Low => 0,
-        Drive::CellBit(r, p, n) => {
-            let at = from + cell_at(r, p);
-            bits::bit_at(bus[at], n)
-        }
-        Drive::IdBit(k, n) => {
-            let at = from + ID_AT + (k % 3) as usize;
-            bits::bit_at(bus[at], n)
-        }
-    }
-}
-
 // The byte whose bits a drive shows, by the bytes of the record that begins at `from`.
 pub fn shown(bus: &[u8], from: usize, v: Drive) -> u8
     requires { ⌜ from + recordSize ≤ length (now bus) ⌝ }
@@ -60,6 +41,19 @@ pub fn shown(bus: &[u8], from: usize, v: Drive) -> u8
             let at = from + ID_AT + (k % 3) as usize;
             bus[at]
         }
+    }
+}
+
+// The level of a drive.
+pub fn level(bus: &[u8], from: usize, v: Drive) -> u8
+    requires { ⌜ from + recordSize ≤ length (now bus) ⌝ }
+    ensures { λ r. ⌜ r ≡ levelIn (now (bus .entry)) from v ⌝ }
+{
+    match v {
+        Drive::Free => 1,
+        Drive::Low => 0,
+        Drive::CellBit(_, _, n) => bits::bit_at(shown(bus, from, v), n),
+        Drive::IdBit(_, n) => bits::bit_at(shown(bus, from, v), n),
     }
 }
 
