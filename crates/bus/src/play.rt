@@ -56,15 +56,6 @@ fn places_of(heads: [Head; 8], count: usize) -> [usize; 8]
     who
 }
 
-fn counted(barred: bool) -> usize
-    ensures { λ r. ⌜ r ≡ pick barred 1 0 ⌝ }
-{
-    if barred {
-        return 1;
-    }
-    0
-}
-
 // What was, where an event is not carried out; else what is now.
 fn kept(barred: bool, was: usize, is: usize) -> usize
     ensures { λ r. ⌜ r ≡ pick barred was is ⌝ }
@@ -139,7 +130,7 @@ pub fn play(
         talker = kept(barred, talker, next);
         any = still(barred, any, busy);
         answers[i] = wire::answer(barred, ev, low);
-        refused += counted(barred);
+        refused += wire::counted(barred);
         at += read.size;
         i += 1;
         // The frames behind it that only move a byte on. Where nobody talks, the head that is passed comes back as it is.

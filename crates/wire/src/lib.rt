@@ -43,6 +43,16 @@ pub fn barred(ev: Event, any: bool) -> bool
     }
 }
 
+// What an event adds to the count of 80h answers; `barred`: it is not carried out.
+pub fn counted(barred: bool) -> usize
+    ensures { λ r. ⌜ r ≡ pick barred 1 0 ⌝ }
+{
+    if barred {
+        return 1;
+    }
+    0
+}
+
 // The level before any device drives.
 pub fn masters_level(ev: Event) -> u8
     ensures { λ r. ⌜ r ≡ mastersLevel ev ⌝ }
