@@ -1,6 +1,6 @@
 // Bytes taken apart by masks and shifts, and merged. Every function is total.
 ghost use mathlib.Core.Path.{_≡_};
-ghost use Prim.Native.Nat.{_+_, _-_, _*_, _/_, _%_, _<_};
+ghost use Prim.Native.Nat.{_%_};
 ghost use lib.Count.{trailingZeros};
 ghost use Rattle.bits.specs.Words.{isNot};
 ghost use Rattle.bits.specs.Bytes.{moreOf, bitAt, opcodeOf, slaveOf, readOf, mainAddress, securityAddress, afterIn, nextIn, isLockByte, isFreezeByte, zoneOf, isSet};

@@ -1,8 +1,7 @@
 // A run keeps the devices' heads in an array and their gathered pages in another; their other bytes stay in the bus file, where the end of a cycle changes them.
 ghost use mathlib.Core.Path.{_≡_};
-ghost use mathlib.Core.Bool.{false};
 ghost use mathlib.Core.List.{map};
-ghost use Prim.Native.Nat.{_+_, _*_, _%_, _<_, _≤_};
+ghost use Prim.Native.Nat.{_≤_};
 ghost use lib.ListN.{length, take};
 ghost use lib.Seq.{sets};
 ghost use Rattle.bits.specs.Words.{pick};
@@ -16,7 +15,6 @@ use crate::act;
 use crate::glide;
 use crate::talk;
 use chip::Device;
-use chip::Event;
 use chip::Head;
 use chip::Stage;
 use image::RECORD_SIZE;

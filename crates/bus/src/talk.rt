@@ -1,7 +1,6 @@
 // Which devices an event is played on, and where it moves the others together. At most one device is past its device address: it talks.
 ghost use mathlib.Core.Path.{_≡_};
-ghost use mathlib.Core.Bool.{true, false};
-ghost use Prim.Native.Nat.{_+_, _<_};
+ghost use Prim.Native.Nat.{_<_};
 ghost use Rattle.bits.specs.Words.{pick};
 ghost use Rattle.bus.specs.Held.{standing, bitAfter, othersAfter, ninthDue, called, oneOf, spanIn, spanOf, past};
 use crate::Span;

@@ -1,7 +1,6 @@
 // The device address: opcode, three slave address bits, R/W.
 ghost use mathlib.Core.Path.{_≡_};
 ghost use mathlib.Core.Bool.{true, false};
-ghost use Prim.Native.Nat.{_+_};
 ghost use Rattle.chip.specs.Stages.{named, isHigh, answersOpcode, answersAddress, opened, causedByAddress, framed};
 ghost use Rattle.chip.specs.declared.Stage.the-variants.{Address};
 use crate::Act;

@@ -1,6 +1,5 @@
 // The data bytes of a write.
 ghost use mathlib.Core.Path.{_≡_};
-ghost use Prim.Native.Nat.{_+_, _%_};
 ghost use Rattle.chip.specs.Stages.{oneMore, answersData, causedByData, framed};
 ghost use Rattle.chip.specs.declared.Stage.the-variants.{Data};
 use crate::Act;

@@ -1,6 +1,5 @@
 // Null, Wait, Reset and Cut: how a cycle begins and ends.
 ghost use mathlib.Core.Path.{_≡_};
-ghost use Prim.Native.Nat.{_%_};
 ghost use Rattle.chip.specs.Stages.{framed};
 ghost use Rattle.chip.specs.Cycle.{running, due, nulled, oneWay, romBit, flagsAfter, finished, restarted, resetOf, cutOf, heard};
 use crate::Act;

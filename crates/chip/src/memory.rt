@@ -1,6 +1,6 @@
 // The bytes of a device: what stands at an address, and what a cycle leaves.
 ghost use mathlib.Core.Path.{_≡_};
-ghost use Prim.Native.Nat.{_+_, _-_, _*_, _/_, _%_};
+ghost use Prim.Native.Nat.{_%_};
 ghost use Rattle.chip.specs.Memory.{securityByte, cellOf, levelOf, gathered, burntCell, burntTo, programmed, acted};
 use crate::Act;
 use crate::Command;

@@ -1,6 +1,5 @@
 // The address byte of a write: memory address, zone byte, 6xh or 55h.
 ghost use mathlib.Core.Path.{_≡_};
-ghost use Prim.Native.Nat.{_+_};
 ghost use Rattle.chip.specs.Stages.{answersPlace, addressIn, causedByPlace, framed};
 ghost use Rattle.chip.specs.declared.Stage.the-variants.{Place};
 use crate::Command;

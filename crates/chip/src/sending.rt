@@ -1,6 +1,5 @@
 // A byte that is put out: cells at the pointer, the ID bytes, the selected zone's register.
 ghost use mathlib.Core.Path.{_≡_};
-ghost use Prim.Native.Nat.{_+_, _%_};
 ghost use Rattle.chip.specs.Stages.{afterEighth, nextByte, registerDrive, shows, sendingOf};
 use crate::Act;
 use crate::Drive;

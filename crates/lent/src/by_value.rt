@@ -1,7 +1,7 @@
 // A lent table by value: how it is filled and read, its step and its save.
 ghost use mathlib.Core.Path.{_≡_};
 ghost use Prim.Native.Nat.{_≤_};
-ghost use lib.ListN.{length, set, getD, replicate, take};
+ghost use lib.ListN.{length, set, getD, replicate};
 ghost use Rattle.image.specs.Layout.{mostRecords};
 ghost use Rattle.image.specs.Image.{blankDevice};
 ghost use Rattle.wire.specs.Wire.{anyBusy};

@@ -1,6 +1,6 @@
 // The event file: its first fault with its place, or the number of its events; and the event at a byte position.
 ghost use mathlib.Core.Path.{_≡_};
-ghost use Prim.Native.Nat.{_+_, _<_, _≤_};
+ghost use Prim.Native.Nat.{_<_, _≤_};
 ghost use Rattle.bits.specs.Words.{isNot};
 ghost use lib.ListN.{length, getD, drop};
 ghost use Rattle.tape.specs.Tape.{longest, marked, sizeOf, maskOf, kindEvent, readOf, eventFault, scanOf, Plain};

@@ -81,6 +81,10 @@ unfoldable pub answersOf : List Device → List Event → List ℕ
 answersOf ds [] = []
 answersOf ds (ev ∷ evs) = answerOf ds ev ∷ answersOf (nextOf ds ev) evs
 
+-- "the number .. of 80h answers": what one event adds to it
+abbrev pub countedFrom : Bool → ℕ
+countedFrom barred = pick barred 1 0
+
 unfoldable pub refusedOf : List Device → List Event → ℕ
 refusedOf ds [] = 0
-refusedOf ds (ev ∷ evs) = pick (barred ev (anyBusy ds)) 1 0 + refusedOf (nextOf ds ev) evs
+refusedOf ds (ev ∷ evs) = countedFrom (barred ev (anyBusy ds)) + refusedOf (nextOf ds ev) evs

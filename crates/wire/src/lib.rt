@@ -1,9 +1,8 @@
 // The wire as a whole: which events are carried out, its level, and the answer byte.
 ghost use mathlib.Core.Path.{_≡_};
-ghost use mathlib.Core.Bool.{true, false};
-ghost use Prim.Native.Nat.{_%_};
+ghost use mathlib.Core.Bool.{true};
 ghost use Rattle.bits.specs.Words.{pick};
-ghost use Rattle.wire.specs.Wire.{busy, barred, mastersLevel, pulled, replied, answerFrom};
+ghost use Rattle.wire.specs.Wire.{busy, barred, mastersLevel, pulled, replied, answerFrom, countedFrom};
 use chip::Cycle;
 use chip::Event;
 use chip::Stage;
@@ -45,7 +44,7 @@ pub fn barred(ev: Event, any: bool) -> bool
 
 // What an event adds to the count of 80h answers; `barred`: it is not carried out.
 pub fn counted(barred: bool) -> usize
-    ensures { λ r. ⌜ r ≡ pick barred 1 0 ⌝ }
+    ensures { λ r. ⌜ r ≡ countedFrom barred ⌝ }
 {
     if barred {
         return 1;
