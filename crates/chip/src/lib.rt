@@ -13,6 +13,8 @@ ghost use Rattle.chip.specs.Head.{at, pointing, choosing, paced, flaggin
 use bits::Selector;
 pub use events::running;
 pub use memory::burn;
+pub use memory::enact;
+pub use memory::level;
 
 // The two parts of the memory with pages: the main array (Ah) and the Security Register (Bh).
 pub enum Region {

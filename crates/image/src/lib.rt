@@ -1,4 +1,4 @@
-// The bus file: its first fault with the place (scan.rt), its records as devices (loading.rt) and back (saving.rt), the view of one zone (view.rt).
+// The bus file: its first fault with the place (scan.rt), its records as devices (loading.rt), a record of a device's stored fields (saving.rt), the view of one zone (view.rt).
 mod bytes;
 mod layout;
 mod loading;
@@ -23,7 +23,6 @@ pub use layout::USER_AT;
 pub use layout::USER_SIZE;
 pub use loading::load;
 pub use loading::load_record;
-pub use saving::save_devices;
 pub use saving::save_record;
 pub use scan::bus_fault;
 pub use view::view_at;

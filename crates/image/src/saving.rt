@@ -1,75 +1,71 @@
-// Devices as a bus file's records.
+// The stored fields of a device as a record of a bus file.
 ghost use mathlib.Core.Path.{_≡_};
 ghost use lib.ListN.{length};
 ghost use Rattle.image.specs.Layout.{recordSize};
-ghost use Rattle.image.specs.Image.{recordOf, savedAt, savedInto};
+ghost use Rattle.image.specs.Image.{atLoad, recordOf, savedAt};
 use crate::bytes;
+use crate::layout::ID_SIZE;
 use crate::layout::MAIN_AT;
+use crate::layout::MAIN_SIZE;
 use crate::layout::MARK;
-use crate::layout::MOST_RECORDS;
 use crate::layout::RECORD_SIZE;
 use crate::layout::RESERVED_AT;
 use crate::layout::RESERVED_BYTE;
 use crate::layout::RESERVED_SIZE;
 use crate::layout::SERIAL_AT;
+use crate::layout::SERIAL_SIZE;
 use crate::layout::USER_AT;
-use chip::Device;
+use crate::layout::USER_SIZE;
 
-// A device's record into a room of a record's size.
-fn write_record(room: &mut [u8], d: Device)
+// The record of the stored fields into a room of a record's size.
+fn write_record<'a>(
+    room: &mut [u8],
+    part: u8,
+    slave: u8,
+    id: [u8; ID_SIZE],
+    flags: u8,
+    main: &'a [u8; MAIN_SIZE],
+    serial: &'a [u8; SERIAL_SIZE],
+    user: &'a [u8; USER_SIZE],
+)
     requires { ⌜ length (now room) ≡ recordSize ⌝ }
-    ensures { λ _. ⌜ now (room .exit) ≡ recordOf d ⌝ }
+    ensures { λ _. ⌜ now (room .exit) ≡ recordOf (atLoad part slave id flags (now (main .entry)) (now (serial .entry)) (now (user .entry))) ⌝ }
 {
-    let id = d.id;
-    let main = d.main;
-    let serial = d.serial;
     let reserved = [RESERVED_BYTE; RESERVED_SIZE];
-    let user = d.user;
-    let head = [
-        MARK[0],
-        MARK[1],
-        d.part,
-        d.slave,
-        id[0],
-        id[1],
-        id[2],
-        d.flags,
-    ];
+    let head = [MARK[0], MARK[1], part, slave, id[0], id[1], id[2], flags];
     bytes::put(room, 0, &head);
-    bytes::put(room, MAIN_AT, &main);
-    bytes::put(room, SERIAL_AT, &serial);
+    bytes::put(room, MAIN_AT, main);
+    bytes::put(room, SERIAL_AT, serial);
     bytes::put(room, RESERVED_AT, &reserved);
-    bytes::put(room, USER_AT, &user);
+    bytes::put(room, USER_AT, user);
 }
 
-// A device's record at a place of a room; nothing where a record's bytes are not there.
-pub fn save_record(room: &mut [u8], at: usize, d: Device)
-    ensures { λ _. ⌜ now (room .exit) ≡ savedAt (now (room .entry)) at d ⌝ }
+// The record of the stored fields, where they lie, at a place of a room; nothing where a record's bytes are not there.
+pub fn save_record<'a>(
+    room: &mut [u8],
+    at: usize,
+    part: u8,
+    slave: u8,
+    id: [u8; ID_SIZE],
+    flags: u8,
+    main: &'a [u8; MAIN_SIZE],
+    serial: &'a [u8; SERIAL_SIZE],
+    user: &'a [u8; USER_SIZE],
+)
+    ensures { λ _. ⌜ now (room .exit) ≡ savedAt (now (room .entry)) at (atLoad part slave id flags (now (main .entry)) (now (serial .entry)) (now (user .entry))) ⌝ }
 {
     if bytes::left(room.len(), at) < RECORD_SIZE {
         return;
     }
     let end = at + RECORD_SIZE;
-    write_record(&mut room[at..end], d);
-}
-
-// The records of the first `count` devices at the start of a room; nothing where there are not so many or the room is too small.
-pub fn save_devices(devices: [Device; 8], count: usize, room: &mut [u8])
-    ensures { λ _. ⌜ now (room .exit) ≡ savedInto devices count (now (room .entry)) ⌝ }
-{
-    if MOST_RECORDS < count {
-        return;
-    }
-    if room.len() < RECORD_SIZE * count {
-        return;
-    }
-    let mut i: usize = 0;
-    let mut at: usize = 0;
-    while i < count {
-        let d = devices[i];
-        let end = at + RECORD_SIZE;
-        write_record(&mut room[at..end], d);
-        at = end;
-        i += 1;
-    }
+    write_record(
+        &mut room[at..end],
+        part,
+        slave,
+        id,
+        flags,
+        main,
+        serial,
+        user,
+    );
 }

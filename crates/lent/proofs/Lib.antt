@@ -1,9 +1,7 @@
-pub mod Kit
-pub mod Walk
-pub mod Again
-pub mod Element
-pub mod Value
-pub mod Places
-pub mod Turns
+pub mod Cases
+pub mod Passes
+pub mod Heads
 pub mod Numbers
+pub mod Same
+pub mod Records
 pub mod Road

@@ -1,32 +1,54 @@
-// Whether a table of devices is well-formed. Each device by itself (devices.rt): its loaded fields, the ranges of its pointer, selector and counts (ranges.rt),
-// the answered bytes that its stage holds (held.rt). All devices: who talks (talk.rt).
+// Whether a lent table of devices is well-formed, in place. Each device by itself (devices.rt): its loaded fields, the ranges of its pointer, selector and counts
+// (ranges.rt), the answered bytes that its stage holds (held.rt). All devices: who talks (talk.rt). One pass gathers both (surveying.rt).
 mod devices;
 mod held;
 mod ranges;
+mod surveying;
 mod talk;
 
 ghost use mathlib.Core.Path.{_≡_};
-ghost use Rattle.table.specs.Table.{tableGood};
+ghost use Rattle.table.specs.Verdict.{verdictOf};
 use chip::Device;
-use image::MOST_RECORDS;
+use chip::Stage;
 
-// What of a device's stage is counted.
-enum Count {
-    Past,
-    Hearing,
-    Started,
-    Programming,
+// What a pass over the heads has seen. The counts are exact below sixteen.
+pub struct Survey {
+    pub good: bool,
+    pub least: u8,
+    pub past: u8,
+    pub hearing: u8,
+    pub started: u8,
+    pub programming: u8,
+    pub first: Stage,
+    pub same: bool,
+    pub busy: bool,
 }
 
-// Whether the first `count` of eight devices are a well-formed table; more than eight are none.
-pub fn well_formed(devices: [Device; 8], count: usize) -> bool
-    ensures { λ r. ⌜ r ≡ tableGood devices count ⌝ }
+// Whether a table is well-formed, and whether a device of it programs.
+pub struct Verdict {
+    pub good: bool,
+    pub busy: bool,
+}
+
+// One pass over the heads of the lent devices, each read field by field where it lies.
+// The borrow checker covers no function that has a slice of structs among its locals: this one is walked by hand, and leaves every decision to what it calls.
+pub fn judge(table: &[Device]) -> Verdict
+    ensures { λ r. ⌜ r ≡ verdictOf (now (table .entry)) ⌝ }
 {
-    if MOST_RECORDS < count {
-        return false;
+    let mut s = Survey::none();
+    let mut i: usize = 0;
+    while i < table.len() {
+        let d = &table[i];
+        s = s.with(
+            d.part,
+            d.slave,
+            d.flags,
+            d.pointer,
+            d.speed,
+            d.selector,
+            d.stage,
+        );
+        i += 1;
     }
-    if devices::good_devices(devices, count) {
-        return talk::one_talks(devices, count);
-    }
-    false
+    s.verdict(table.len())
 }

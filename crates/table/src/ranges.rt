@@ -1,9 +1,10 @@
 // The ranges of one device's pointer, selector and stage counts.
 ghost use mathlib.Core.Path.{_≡_};
 ghost use Rattle.table.specs.WellFormed.{highestIn, highestPointer, goodPointer, inZones, asksZone, pastZoneByte, goodSelector, goodBits, mostTaken, goodSource, goodCounts};
+ghost use Rattle.table.specs.Survey.{bare};
 use bits::Selector;
 use chip::Command;
-use chip::Device;
+use chip::Head;
 use chip::Region;
 use chip::Source;
 use chip::Stage;
@@ -48,11 +49,11 @@ fn highest_pointer(s: Stage) -> u8
     }
 }
 
-pub fn good_pointer(d: Device) -> bool
-    ensures { λ r. ⌜ r ≡ goodPointer d ⌝ }
+pub fn good_pointer(h: Head) -> bool
+    ensures { λ r. ⌜ r ≡ goodPointer (bare h) ⌝ }
 {
-    let s = d.stage;
-    d.pointer <= highest_pointer(s)
+    let s = h.stage;
+    h.pointer <= highest_pointer(s)
 }
 
 // ---- the selector
@@ -90,11 +91,11 @@ fn past_zone_byte(s: Stage) -> bool
     }
 }
 
-pub fn good_selector(d: Device) -> bool
-    ensures { λ r. ⌜ r ≡ goodSelector d ⌝ }
+pub fn good_selector(h: Head) -> bool
+    ensures { λ r. ⌜ r ≡ goodSelector (bare h) ⌝ }
 {
-    let z = d.selector;
-    let s = d.stage;
+    let z = h.selector;
+    let s = h.stage;
     if in_zones(z) {
         if past_zone_byte(s) {
             return bits::is_set(z);

@@ -1,6 +1,6 @@
 -- `lending::save`: a walk of its MIR, one call. The array is copied into a memory slot, whose first elements are lent as a `&` for a lifetime that is made here, and come back after the call; the
 -- room goes to the call, at its own lifetime, for good.
-use Rattle.lent.proofs.Kit.{_≡_, refl, sym, ap, subst, ℕ, _<_, _^_, List, [], _∷_, length, lit<, URA, fullShare, Ty, named, erased, imm, mut, w8, w64, tyInt, tyRef, Val, vint, SProp, ent, emp, via, fst∗, id⊢, Lft, GName, Share, ftrue, fat, froom, fdies, flft, Memory, Routine, Heap, Env, WpFn, Tables, Atoms, Fun, fact, givenOf, tables, tablesOf, Given, Item, ‵, raw, _⊛_, some, later, ⋆, Sq, runs, atRet, _$_, _∵_, !, qed, by, move, keep, drop, use1, use2, use3, split, join, pick, rewrite, fsplit, fjoin, feqL, suffices, frame, await, done, agg, whole, sub, look-in, look, init, stop, hop, fld, from, load, lit, addr, of-opd, bin, and-then, no-more, assigns, land, returns, enter, alloc1, alloc0, params1, pass1, pass0, free0, lft-new, lft-end, fmOf, WpFn-mono, owns, pointee, Is, shows, uint-makes, uint-vals, uint-tells, usize, u8, RefT, sliceTy, sliceVal, MutSlice, ShrSlice, Room, finally, slice-vals, mut-slice-tells, plain, only, owned, peeks, heard, nothing, calls-at, ensured, lasts, Vals, onEntry, Meets, tripleOf, Contract, Triple, entered, cited, says, Stays, stay-none, gave-slice, walkOf, Walks, ends-at, walked, goes-none, goes-gave-slice, walk-meets, yes}
+use Rattle.table.proofs.Kit.{_≡_, refl, sym, ap, subst, ℕ, _<_, _^_, List, [], _∷_, length, lit<, URA, fullShare, Ty, named, erased, imm, mut, w8, w64, tyInt, tyRef, Val, vint, SProp, ent, emp, via, fst∗, id⊢, Lft, GName, Share, ftrue, fat, froom, fdies, flft, Memory, Routine, Heap, Env, WpFn, Tables, Atoms, Fun, fact, givenOf, tables, tablesOf, Given, Item, ‵, raw, _⊛_, some, later, ⋆, Sq, runs, atRet, _$_, _∵_, !, qed, by, move, keep, drop, use1, use2, use3, split, join, pick, rewrite, fsplit, fjoin, feqL, suffices, frame, await, done, agg, whole, sub, look-in, look, init, stop, hop, fld, from, load, lit, addr, of-opd, bin, and-then, no-more, assigns, land, returns, enter, alloc1, alloc0, params1, pass1, pass0, free0, lft-new, lft-end, fmOf, WpFn-mono, owns, pointee, Is, shows, uint-makes, uint-vals, uint-tells, usize, u8, RefT, sliceTy, sliceVal, MutSlice, ShrSlice, Room, finally, slice-vals, mut-slice-tells, plain, only, owned, peeks, heard, nothing, calls-at, ensured, lasts, Vals, onEntry, Meets, tripleOf, Contract, Triple, entered, cited, says, Stays, stay-none, gave-slice, walkOf, Walks, ends-at, walked, goes-none, goes-gave-slice, walk-meets, yes}
 use Prim.Native.Nat.{_%_}
 use denote.Enum.Laws as EL
 use Rattle.chip.specs.declared.Device.{Device}
@@ -8,8 +8,8 @@ use Rattle.lent.specs.declared.Saved.{Saved}
 use Rattle.lent.specs.Save.{saveAnswer, savedRoom}
 use Rattle.lent.proofs.Saved as S
 use Rattle.lent.proofs.Saved.Laws as S′
-use Rattle.lent.proofs.Element as one
-use Rattle.lent.proofs.Walk.{free-full}
+use Rattle.table.proofs.Element as one
+use Rattle.table.proofs.Walk.{free-full}
 use Rattle.lent.proofs.save as call
 use Rattle.lent.proofs.save.Symbol as call-def
 use Rattle.lent.proofs.save.Symbol.{name as #lent·save}

@@ -1,7 +1,7 @@
 -- `lending::step`: a walk of its MIR, one call. The array is copied into a memory slot, whose first elements are lent for a lifetime that is made here; it ends after the call, and the slot is
 -- read whole again.
 --     starts       from the first statement to the call's return.        ends     from there on
-use Rattle.lent.proofs.Kit.{_≡_, refl, sym, ap, subst, ℕ, _<_, _^_, List, [], _∷_, length, lit<, URA, fullShare, Ty, erased, mut, w8, w64, tyInt, tyRef, Val, vint, vptr, SProp, ent, emp, via, fst∗, id⊢, GName, ftrue, fat, froom, fdies, flft, Memory, Routine, Heap, Env, WpFn, Tables, Atoms, Fun, fact, givenOf, tables, tablesOf, Given, Item, ‵, raw, _⊛_, some, later, ⋆, Sq, runs, atRet, _$_, _∵_, !, qed, by, move, keep, drop, use1, use2, use3, split, join, pick, rewrite, fsplit, fjoin, feqL, suffices, frame, await, done, agg, look, init, stop, from, load, lit, addr, of-opd, bin, and-then, no-more, assigns, land, returns, enter, alloc1, alloc0, params1, pass1, pass0, free0, lft-new, lft-end, fmOf, WpFn-mono, owns, pointee, Is, shows, uint-makes, uint-vals, uint-tells, usize, u8, u64, RefT, sliceTy, sliceVal, MutSlice, finally, only, owned, peeks, heard, nothing, calls-at, ensured, lasts, Vals, onEntry, Meets, tripleOf, Contract, Triple, entered, cited, says, Stays, stay-none, walkOf, Walks, ends-at, walked, goes-none, walk-meets, yes, named}
+use Rattle.table.proofs.Kit.{_≡_, refl, sym, ap, subst, ℕ, _<_, _^_, List, [], _∷_, length, lit<, URA, fullShare, Ty, erased, mut, w8, w64, tyInt, tyRef, Val, vint, vptr, SProp, ent, emp, via, fst∗, id⊢, GName, ftrue, fat, froom, fdies, flft, Memory, Routine, Heap, Env, WpFn, Tables, Atoms, Fun, fact, givenOf, tables, tablesOf, Given, Item, ‵, raw, _⊛_, some, later, ⋆, Sq, runs, atRet, _$_, _∵_, !, qed, by, move, keep, drop, use1, use2, use3, split, join, pick, rewrite, fsplit, fjoin, feqL, suffices, frame, await, done, agg, look, init, stop, from, load, lit, addr, of-opd, bin, and-then, no-more, assigns, land, returns, enter, alloc1, alloc0, params1, pass1, pass0, free0, lft-new, lft-end, fmOf, WpFn-mono, owns, pointee, Is, shows, uint-makes, uint-vals, uint-tells, usize, u8, u64, RefT, sliceTy, sliceVal, MutSlice, finally, only, owned, peeks, heard, nothing, calls-at, ensured, lasts, Vals, onEntry, Meets, tripleOf, Contract, Triple, entered, cited, says, Stays, stay-none, walkOf, Walks, ends-at, walked, goes-none, walk-meets, yes, named}
 use Prim.Native.Nat.{_%_}
 use mathlib.Core.List.{_++_}
 use lib.ListN.{drop as rest}
@@ -14,8 +14,8 @@ use Rattle.lent.specs.declared.Stepped.{Stepped}
 use Rattle.lent.specs.Step.{steppedOf, stepAnswer}
 use Rattle.lent.proofs.Stepped as N
 use Rattle.lent.proofs.Stepped.Laws as N′
-use Rattle.lent.proofs.Element as one
-use Rattle.lent.proofs.Walk.{free-full}
+use Rattle.table.proofs.Element as one
+use Rattle.table.proofs.Walk.{free-full}
 use Rattle.lent.proofs.step as call
 use Rattle.lent.proofs.step.Symbol as call-def
 use Rattle.lent.proofs.step.Symbol.{name as #lent·step}

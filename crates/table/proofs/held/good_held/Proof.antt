@@ -40,7 +40,7 @@ returns-2 : tie.Need-returns-2
 returns-2 c = simp (c .enum-told2 .given .1)
 
 returns-3 : tie.Need-returns-3
-returns-3 c = simp (← c .address-held .ensures, c .before .before .s .given .1)
+returns-3 c = simp (c .address-held .ensures, c .before .before .s .given .1)
 
 returns-4 : tie.Need-returns-4
 returns-4 c = simp (c .gathering-held .ensures, c .before .before .s2 .given .1)

@@ -1,5 +1,5 @@
 -- `table::talk::first_of`: each return is its case of the definition, by the tests and calls that lead to it.
-use Rattle.table.specs.Table.{firstOf}
+use Rattle.table.specs.Survey.{firstOf}
 use borrow.Author.Needs.{needs}
 use Rattle.table.proofs.talk.first_of.Statement.{statement}
 use Rattle.table.proofs.talk.first_of.Tie as tie

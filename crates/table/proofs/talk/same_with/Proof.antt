@@ -1,5 +1,5 @@
 -- `table::talk::same_with`: each return is its case of the definition, by the tests and calls that lead to it.
-use Rattle.table.specs.Table.{sameWith}
+use Rattle.table.specs.Survey.{sameWith}
 use borrow.Author.Needs.{needs}
 use Rattle.table.proofs.talk.same_with.Statement.{statement}
 use Rattle.table.proofs.talk.same_with.Tie as tie
