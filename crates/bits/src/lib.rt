@@ -1,4 +1,6 @@
 // Bytes taken apart by masks and shifts, and merged. Every function is total.
+#![tactic(auto)]
+
 ghost use Rattle.std.specs.Prelude.{◌≡◌, ◌%◌};
 ghost use Rattle.std.specs.Int.Count.{count_trailing_zeros};
 ghost use Rattle.bits.specs.Words.{is_not};
@@ -97,7 +99,7 @@ pub fn is_freeze_byte(byte: u8) -> bool
 }
 
 // Whether a zone is selected, and which.
-#[derive(Drop)]
+#[derive(Clone, Copy)]
 pub enum Selector {
     Unset,
     Zone(u8),

@@ -1,4 +1,6 @@
 // The C face: functions on bytes and numbers, declared in include/borewizard.h.
+#![tactic(auto)]
+
 ghost use Rattle.std.specs.Prelude.{◌≡◌, length};
 ghost use Rattle.bus.specs.Run.{number_of, event_count_of, refused_count_of, ran_of, bus_after, answers_after};
 ghost use Rattle.image.specs.View.{view_fault, view_at};

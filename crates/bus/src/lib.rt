@@ -1,4 +1,6 @@
 // The devices of a bus file on one wire, and a run of an event file over them.
+#![tactic(auto)]
+
 mod act;
 mod glide;
 mod play;
@@ -12,28 +14,28 @@ use chip::{Head, Stage};
 use faults::Fault;
 
 // A run's answer: the number of events and of 80h answers, or the refusal.
-#[derive(Drop)]
+#[derive(Clone, Copy)]
 pub enum Ran {
     Done(usize, usize),
     Refused(Fault),
 }
 
 // The devices from one on and before another.
-#[derive(Drop)]
+#[derive(Clone, Copy)]
 pub struct Span {
     pub from: usize,
     pub to: usize,
 }
 
 // A byte under way: how many of its bits came or went, and their value.
-#[derive(Drop)]
+#[derive(Clone, Copy)]
 pub struct Byte {
     pub count: u8,
     pub bits: u8,
 }
 
 // Where frames of a byte end: the place in the event file, the number of answers, the byte.
-#[derive(Drop)]
+#[derive(Clone, Copy)]
 pub struct Reached {
     pub at: usize,
     pub i: usize,
@@ -42,7 +44,7 @@ pub struct Reached {
 }
 
 // Where they end for a run: the stage that the others share, the head of the device that talks, the place in the event file, the number of answers.
-#[derive(Drop)]
+#[derive(Clone, Copy)]
 pub struct Ended {
     pub others: Stage,
     pub head: Head,

@@ -7,6 +7,7 @@ use crate::{Act, Command, Drive, Framed, Head, Opcode, Region, Source, Speed, St
 
 const PART_11: u8 = 0x11;
 
+#[tactic(auto, unfolding(crate::specs::Stages::named))]
 pub fn named(o: u8) -> Opcode
     ensures { result ≡ named o }
 {

@@ -186,6 +186,7 @@ impl Head {
     }
 
     // One event, as far as the head goes.
+    #[tactic(auto, unfolding(crate::specs::Cycle::heard))]
     pub fn hears(self, ev: Event) -> Framed
         ensures { result ≡ heard self ev }
     {

@@ -1,5 +1,7 @@
 // One AT21CS01/AT21CS11 device and what it does with one event. The rules are on a small head (address.rt, place.rt, data.rt, sending.rt,
 // events.rt); what an event asks of the bytes is an act and a drive, carried out in memory.rt; take.rt puts the two together.
+#![tactic(auto)]
+
 mod address;
 mod data;
 mod events;
@@ -16,14 +18,14 @@ pub use events::running;
 pub use memory::{burn, enact, level};
 
 // The two parts of the memory with pages: the main array (Ah) and the Security Register (Bh).
-#[derive(Drop)]
+#[derive(Clone, Copy)]
 pub enum Region {
     Main,
     Security,
 }
 
 // The command that a stage of a write names: Ah or Bh, 2h with R/W 0, 2h with R/W 1 (Check Lock), 7h, 1h.
-#[derive(Drop)]
+#[derive(Clone, Copy)]
 pub enum Command {
     Page(Region),
     Lock,
@@ -33,7 +35,7 @@ pub enum Command {
 }
 
 // What a byte that is put out comes from: cells at the pointer, ID byte 0 to 2, the selected zone's register.
-#[derive(Drop)]
+#[derive(Clone, Copy)]
 pub enum Source {
     Cells(Region),
     Id(u8),
@@ -41,7 +43,7 @@ pub enum Source {
 }
 
 // What a device waits for. A stage that takes a byte holds how many of its bits came (8: the ninth frame is due) and their value so far.
-#[derive(Drop)]
+#[derive(Clone, Copy)]
 pub enum Stage {
     Standby,
     // device address: count, byte
@@ -56,14 +58,14 @@ pub enum Stage {
     Programming(Command, u8),
 }
 
-#[derive(Drop)]
+#[derive(Clone, Copy)]
 pub enum Speed {
     High,
     Standard,
 }
 
 // A bit counts by its lowest bit; a Cut carries its mask.
-#[derive(Drop)]
+#[derive(Clone, Copy)]
 pub enum Event {
     Bit(u8),
     Null,
@@ -73,7 +75,7 @@ pub enum Event {
 }
 
 // The opcodes of 003, table 5-1.
-#[derive(Drop)]
+#[derive(Clone, Copy)]
 pub enum Opcode {
     Access(Region),
     LockRegister,
@@ -86,14 +88,14 @@ pub enum Opcode {
 }
 
 // The command and the data bytes of a cycle, if there is one.
-#[derive(Drop)]
+#[derive(Clone, Copy)]
 pub enum Cycle {
     Idle,
     Of(Command, u8),
 }
 
 // What of a device the rules look at and change: all but the bytes.
-#[derive(Drop)]
+#[derive(Clone, Copy)]
 pub struct Head {
     pub part: u8,
     pub slave: u8,
@@ -105,7 +107,7 @@ pub struct Head {
 }
 
 // What a device does to the wire: leaves it free, drives 0, or shows a bit of the cell at an address or of an ID byte.
-#[derive(Drop)]
+#[derive(Clone, Copy)]
 pub enum Drive {
     Free,
     Low,
@@ -114,21 +116,21 @@ pub enum Drive {
 }
 
 // What an event asks of the bytes: nothing, a byte into the page, the end of a cycle (command, pointer, data bytes, mask).
-#[derive(Drop)]
+#[derive(Clone, Copy)]
 pub enum Act {
     Nothing,
     Put(u8, u8),
     Program(Command, u8, u8, u64),
 }
 
-#[derive(Drop)]
+#[derive(Clone, Copy)]
 pub struct Framed {
     pub head: Head,
     pub drive: Drive,
     pub act: Act,
 }
 
-#[derive(Drop)]
+#[derive(Clone, Copy)]
 pub struct Device {
     pub part: u8,
     pub slave: u8,
@@ -146,7 +148,7 @@ pub struct Device {
 }
 
 // The device after an event, and the level that it drives: 0, or 1 where it leaves the wire free.
-#[derive(Drop)]
+#[derive(Clone, Copy)]
 pub struct Taken {
     pub device: Device,
     pub level: u8,

@@ -73,6 +73,7 @@ fn cell<'a>(main: &'a [u8; 128], serial: &'a [u8; 8], user: &'a [u8; 16], r: Reg
 }
 
 // The level that a drive puts on the wire, by the bytes where they lie.
+#[tactic(auto, unfolding(crate::specs::Memory::level_of))]
 pub fn level<'a>(
     v: Drive,
     id: &'a [u8; 3],
@@ -118,6 +119,7 @@ fn program<'a>(
 }
 
 // What an act makes of the bytes, where they lie.
+#[tactic(auto, unfolding(crate::specs::Memory::acted))]
 pub fn enact<'a>(a: Act, main: &'a mut [u8; 128], user: &'a mut [u8; 16], page: &'a mut [u8; 8])
     ensures { (main.new ≡ (enacted a main.old user.old page.old).main) × ((user.new ≡ (enacted a main.old user.old page.old).user) × (page.new ≡ (enacted a main.old user.old page.old).page)) }
 {

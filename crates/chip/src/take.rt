@@ -50,6 +50,7 @@ impl Device {
         }
     }
 
+    #[tactic(auto, unfolding(crate::specs::Take::take_of))]
     pub fn take(self, ev: Event) -> Taken
         ensures { result ≡ take_of self ev }
     {

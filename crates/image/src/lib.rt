@@ -1,4 +1,6 @@
 // The bus file: its first fault with the place (scan.rt), its records as devices (loading.rt), a record of a device's stored fields (saving.rt), the view of one zone (view.rt).
+#![tactic(auto)]
+
 mod bytes;
 mod layout;
 mod loading;
@@ -18,7 +20,7 @@ pub use scan::bus_fault;
 pub use view::{view_at, view_fault, zone_view};
 
 // The first fault of a file, how many devices it has, and these, with blank ones after them; none on a refusal.
-#[derive(Drop)]
+#[derive(Clone, Copy)]
 pub struct Loaded {
     pub fault: Fault,
     pub count: usize,

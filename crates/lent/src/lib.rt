@@ -2,6 +2,8 @@
 // device takes the event, or has its record written. No device is copied: the fields of its head are read and stored one by one, and its bytes are lent where they
 // lie to the covered functions that show and change them. The borrow checker covers no function that has a slice of structs among its locals: those below are
 // walked by hand, and every decision is in orders.rt.
+#![tactic(auto)]
+
 mod orders;
 
 ghost use Rattle.std.specs.Prelude.{◌≡◌, ◌*◌, ◌≤◌, length};
@@ -16,21 +18,21 @@ use chip::{Device, Event};
 use image::RECORD_SIZE;
 
 // A step's answer: the answer byte, or the number of the refusal.
-#[derive(Drop)]
+#[derive(Clone, Copy)]
 pub enum Stepped {
     Answer(u8),
     Refused(u8),
 }
 
 // A save's answer: done, or the number of the refusal.
-#[derive(Drop)]
+#[derive(Clone, Copy)]
 pub enum Saved {
     Done,
     Refused(u8),
 }
 
 // What a step is to do: refuse by a number, leave all as it is, or let each device take the event.
-#[derive(Drop)]
+#[derive(Clone, Copy)]
 pub struct Order {
     pub number: u8,
     pub goes: bool,

@@ -14,7 +14,7 @@ pub const KEPT: usize = 9;
 const COUNTS: usize = 10;
 
 // The devices after a step, and the step's answer.
-#[derive(Drop)]
+#[derive(Clone, Copy)]
 pub struct Played {
     pub devices: [Device; KEPT],
     pub answer: Stepped,

@@ -11,7 +11,7 @@ const CELL: u8 = 0x2A;
 const NEW: u8 = 0x5C;
 
 // By what a command is seen to have ended in a Stop: the device programs, or the cell has the new byte after a Wait.
-#[derive(Drop)]
+#[derive(Clone, Copy)]
 enum Sign {
     Programs,
     Arrives,

@@ -2,7 +2,7 @@
 use bits::Selector;
 use chip::{Device, Speed, Stage};
 
-#[derive(Drop)]
+#[derive(Clone, Copy)]
 pub enum Part {
     At21cs01,
     At21cs11,

@@ -1,4 +1,6 @@
 // Plays document 01's trace example and the sequences of 003, sections 4 to 8, on one proved device, and writes what went over the wire.
+#![tactic(auto)]
+
 mod abandoned;
 mod bench;
 mod cut;

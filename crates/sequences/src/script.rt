@@ -3,7 +3,7 @@
 use chip::Event;
 
 // What the next letter belongs to.
-#[derive(Drop)]
+#[derive(Clone, Copy)]
 pub enum Mode {
     Words,
     Acts,
@@ -17,7 +17,7 @@ pub enum Mode {
 }
 
 // What a letter asks for.
-#[derive(Drop)]
+#[derive(Clone, Copy)]
 pub enum Act {
     Nothing,
     Copy(u8),

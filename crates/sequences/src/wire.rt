@@ -7,7 +7,7 @@ ghost use Rattle.sequences.specs.Wire.{sent_to, got_with, got_to};
 use chip::{Device, Event, Taken};
 
 // The device after a byte was read, and the byte.
-#[derive(Drop)]
+#[derive(Clone, Copy)]
 pub struct Got {
     pub device: Device,
     pub byte: u8,

@@ -1,5 +1,7 @@
 // Whether a lent table of devices is well-formed, in place. Each device by itself (devices.rt): its loaded fields, the ranges of its pointer, selector and counts
 // (ranges.rt), the answered bytes that its stage holds (held.rt). All devices: who talks (talk.rt). One pass gathers both (surveying.rt).
+#![tactic(auto)]
+
 mod devices;
 mod held;
 mod ranges;
@@ -12,7 +14,7 @@ ghost use Rattle.table.specs.Verdict.{verdict_of};
 use chip::{Device, Stage};
 
 // What a pass over the heads has seen. The counts are exact below sixteen.
-#[derive(Drop)]
+#[derive(Clone, Copy)]
 pub struct Survey {
     pub good: bool,
     pub least: u8,
@@ -26,7 +28,7 @@ pub struct Survey {
 }
 
 // Whether a table is well-formed, and whether a device of it programs.
-#[derive(Drop)]
+#[derive(Clone, Copy)]
 pub struct Verdict {
     pub good: bool,
     pub busy: bool,

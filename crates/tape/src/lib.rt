@@ -1,4 +1,6 @@
 // The event file: its first fault with its place, or the number of its events; and the event at a byte position.
+#![tactic(auto)]
+
 ghost use Rattle.std.specs.Prelude.{◌≡◌, ◌<◌, ◌≤◌, length, get_or, drop};
 ghost use Rattle.bits.specs.Words.{is_not};
 ghost use Rattle.tape.specs.Tape.{longest, marked, size_of, mask_of, kind_event, read_of, event_fault, scan_of, Plain};
@@ -22,14 +24,14 @@ const MASK: usize = 8;
 const CUT: u8 = 5;
 
 // The first fault, or none and the number of events.
-#[derive(Drop)]
+#[derive(Clone, Copy)]
 pub struct Scan {
     pub fault: Fault,
     pub events: usize,
 }
 
 // An event and the number of its bytes.
-#[derive(Drop)]
+#[derive(Clone, Copy)]
 pub struct Read {
     pub event: Event,
     pub size: usize,

@@ -1,4 +1,6 @@
 // The trace program: bus.img and events.trc of the current directory in, a line of text for each event out. It writes no file.
+#![tactic(auto)]
+
 ghost use Rattle.io.specs.Counts.{IsPrefixLen};
 
 mod text;

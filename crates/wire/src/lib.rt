@@ -1,4 +1,6 @@
 // The wire as a whole: which events are carried out, its level, and the answer byte.
+#![tactic(auto)]
+
 ghost use Rattle.std.specs.Prelude.{◌≡◌, true};
 ghost use Rattle.bits.specs.Words.{pick};
 ghost use Rattle.wire.specs.Wire.{busy, barred, masters_level, pulled, replied, answer_from, counted_from};
