@@ -39,6 +39,7 @@ fn at_load(
     }
 }
 
+#[tactic(auto, unfolding(crate::specs::Image::blank_device))]
 fn blank() -> Device
     ensures { result ≡ blank_device }
 {
@@ -54,6 +55,7 @@ fn blank() -> Device
 }
 
 // The device of the record that begins a list.
+#[tactic(auto, unfolding(crate::specs::Image::device_of))]
 fn read_record(l: &[u8]) -> Device
     requires { record_size ≤ length l.now }
     ensures { result ≡ device_of l.now }
@@ -70,6 +72,7 @@ fn read_record(l: &[u8]) -> Device
 }
 
 // The device of the record at a place, blank where a record's bytes are not there.
+#[tactic(auto, unfolding(crate::specs::Image::device_at, crate::specs::Image::device_of))]
 pub fn load_record(bus: &[u8], at: usize) -> Device
     ensures { result ≡ device_at bus.now at }
 {
@@ -80,6 +83,7 @@ pub fn load_record(bus: &[u8], at: usize) -> Device
 }
 
 // The devices of a bus file, or its first fault.
+#[tactic(auto, unfolding(crate::specs::Image::loaded_of))]
 pub fn load(bus: &[u8]) -> Loaded
     ensures { result ≡ loaded_of bus.now }
 {

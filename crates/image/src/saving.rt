@@ -33,6 +33,7 @@ fn write_record<'a>(
 }
 
 // The record of the stored fields, where they lie, at a place of a room; nothing where a record's bytes are not there.
+#[tactic(auto, unfolding(crate::specs::Image::saved_at))]
 pub fn save_record<'a>(
     room: &mut [u8],
     at: usize,

@@ -53,6 +53,7 @@ fn ones(l: &[u8]) -> usize
 }
 
 // The fault of the record that begins what is left of the file, `at` bytes from its start; `least` is the least slave address that it may have.
+#[tactic(auto, unfolding(crate::specs::Scan::record_fault))]
 fn record_fault(left: &[u8], at: usize, least: u8) -> Fault
     requires { (record_size ≤ length left.now) × (at < longest_file) }
     ensures { result ≡ record_fault at least left.now }
@@ -81,6 +82,7 @@ fn record_fault(left: &[u8], at: usize, least: u8) -> Fault
     faults::nothing()
 }
 
+#[tactic(auto, unfolding(crate::specs::Scan::bus_fault))]
 pub fn bus_fault(bus: &[u8]) -> Fault
     ensures { result ≡ bus_fault bus.now }
 {

@@ -21,6 +21,7 @@ fn seek(bus: &[u8], slave: u8) -> usize
 }
 
 // The number and the place of a view's refusal.
+#[tactic(auto, unfolding(crate::specs::View::view_fault))]
 pub fn view_fault(bus: &[u8], slave: u8, zone: u8) -> Fault
     ensures { result ≡ view_fault bus.now slave zone }
 {
@@ -38,6 +39,7 @@ pub fn view_fault(bus: &[u8], slave: u8, zone: u8) -> Fault
 }
 
 // Where the bytes of a zone begin in the file; 0 on a refusal.
+#[tactic(auto, unfolding(crate::specs::View::view_at))]
 pub fn view_at(bus: &[u8], slave: u8, zone: u8) -> usize
     ensures { result ≡ view_at bus.now slave zone }
 {
@@ -49,6 +51,7 @@ pub fn view_at(bus: &[u8], slave: u8, zone: u8) -> usize
 }
 
 // The bytes of a zone, as a part of the caller's own bus file; nothing on a refusal.
+#[tactic(auto, unfolding(crate::specs::View::view_of))]
 pub fn zone_view(bus: &[u8], slave: u8, zone: u8) -> &[u8]
     ensures { result.now ≡ view_of bus.now slave zone }
 {
