@@ -48,6 +48,7 @@ pub fn size_of(kind: u8) -> usize
 }
 
 // The event of a kind; only a Cut looks at the mask, and a kind over 5, which no scanned file has, reads as Null.
+#[tactic(auto, unfolding(crate::specs::Tape::kind_event))]
 pub fn event_of(kind: u8, mask: u64) -> Event
     ensures { result ≡ kind_event kind mask }
 {
@@ -85,6 +86,7 @@ fn lacks_mark(left: &[u8]) -> bool
 }
 
 // The fault of the event that begins what is left of the file, `at` bytes from its start.
+#[tactic(auto, unfolding(crate::specs::Tape::event_fault))]
 fn event_fault(left: &[u8], at: usize) -> Fault
     requires { at < longest }
     ensures { result ≡ event_fault at left.now }
