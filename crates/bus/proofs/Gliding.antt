@@ -168,6 +168,10 @@ free_byte (Programming c t) h = absurd (omega arith)
 apart_resumed : (s : Stage) (n x b : ℕ) → n < 8 → Apart s → (ninth_due (resumed s (byte n x)) ≡ false) × (bit_after (resumed s (byte n x)) b ≡ resumed s (byte (n + 1) (more_of x b)))
 apart_resumed Standby n x b h rests = (refl, refl)
 apart_resumed (Address m y) n x b h reads = rw (lt-ltb n 8 h) (refl, refl)
+apart_resumed (Place _ _ _) n x b h q = elim q [ ]
+apart_resumed (Data _ _ _ _) n x b h q = elim q [ ]
+apart_resumed (Sending _ _) n x b h q = elim q [ ]
+apart_resumed (Programming _ _) n x b h q = elim q [ ]
 
 -- ---- no device programs
 none_programs : (ds : List Device) → ((k : ℕ) → k < length ds → busy (get_or ds k blank).stage ≡ false) → any_busy ds ≡ false

@@ -61,10 +61,18 @@ module _ (h : Head) (b : ℕ) where
   bit_apart : (s : Stage) → Apart s → NotCalled s h.slave → framed h s b ≡ silent h (bit_after s b)
   bit_apart Standby rests c = refl
   bit_apart (Address n x) reads c = by_count n x (ltb n 8) refl c
+  bit_apart (Place _ _ _) q c = elim q [ ]
+  bit_apart (Data _ _ _ _) q c = elim q [ ]
+  bit_apart (Sending _ _) q c = elim q [ ]
+  bit_apart (Programming _ _) q c = elim q [ ]
 
 null_apart : (h : Head) (s : Stage) → Apart s → null_of h (running s) (due s) ≡ at h (Address 0 0)
 null_apart h Standby rests = refl
 null_apart h (Address n x) reads = refl
+null_apart h (Place _ _ _) q = elim q [ ]
+null_apart h (Data _ _ _ _) q = elim q [ ]
+null_apart h (Sending _ _) q = elim q [ ]
+null_apart h (Programming _ _) q = elim q [ ]
 
 -- an event that is played on a device apart only where all hear it
 pub data Passing : Event → Type 0 where
@@ -88,6 +96,8 @@ aside d s Null e a a_null c =
 aside d s Wait e a a_wait c =
     let q : nulled (head_of d) ≡ at (head_of d) (Address 0 0) = ap (λ (t : Stage). null_of (head_of d) (running t) (due t)) e ∙ null_apart (head_of d) s a in
     moved d Wait (Address 0 0) (rw q refl)
+aside d s Reset e a q c = elim q [ ]
+aside d s (Cut _) e a q c = elim q [ ]
 
 -- ---- where a device ends that an event is played on: past its device address, or in the stage that the others share then
 pub record Lands (s o : Stage) : Type 0 where
@@ -228,6 +238,9 @@ pub reset_rests : (h : Head) (ev : Event) (s : Stage) → h.stage ≡ s → Rese
 unfolding heard
 reset_rests h Reset s e a_reset f = rw (ap running e ∙ idle s f) refl
 reset_rests h (Cut m) s e a_cut f = cut_rests h m (running h.stage)
+reset_rests h (Bit _) s e q f = elim q [ ]
+reset_rests h Null s e q f = elim q [ ]
+reset_rests h Wait s e q f = elim q [ ]
 
 -- an event played on a head in stage s, beside others in stage o
 pub lands : (h : Head) (ev : Event) (s o : Stage) → h.stage ≡ s → Free ev s → (others_after ev o ≡ others_after ev Standby) → Lands (heard h ev).head.stage (others_after ev o)
@@ -245,6 +258,10 @@ lands h (Cut m) s o e f q = rw (cut_rests h m (running h.stage)) off
 pub apart_free : (s : Stage) → Apart s → busy s ≡ false
 apart_free Standby rests = refl
 apart_free (Address n x) reads = refl
+apart_free (Place _ _ _) q = elim q [ ]
+apart_free (Data _ _ _ _) q = elim q [ ]
+apart_free (Sending _ _) q = elim q [ ]
+apart_free (Programming _ _) q = elim q [ ]
 
 pub apart_after : (s : Stage) (ev : Event) → Apart s → Apart (others_after ev s)
 apart_after Standby (Bit b) rests = rests
@@ -253,3 +270,7 @@ apart_after s Null a = reads
 apart_after s Wait a = reads
 apart_after s Reset a = rests
 apart_after s (Cut m) a = rests
+apart_after (Place _ _ _) (Bit b) a = elim a [ ]
+apart_after (Data _ _ _ _) (Bit b) a = elim a [ ]
+apart_after (Sending _ _) (Bit b) a = elim a [ ]
+apart_after (Programming _ _) (Bit b) a = elim a [ ]

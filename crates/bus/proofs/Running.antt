@@ -1,5 +1,5 @@
 -- A run: what is left to do from a place of the event file ends as the whole does from its start.
-use Prim.Native.Nat.{ℕ, ◌+◌, ◌-◌, ◌*◌, ◌<◌, ◌≤◌}
+use Prim.Native.Nat.{ℕ, ◌+◌, ◌*◌, ◌<◌, ◌≤◌}
 use native.Mathlib.Omega.{arith}
 use native.Mathlib.Nat.{not-suc-le-zero}
 use native.Mathlib.Numerals.{add-one}
@@ -15,8 +15,9 @@ use Rattle.chip.specs.declared.Framed.{Framed}
 use Rattle.chip.specs.declared.Stage.{Stage}
 use Rattle.chip.specs.declared.Stage.TheVariants.{Standby}
 use Rattle.chip.specs.declared.Event.{Event}
-use Rattle.wire.specs.Wire.{any_busy, barred, next_of, masters_level, wire_of, replied, answer_from, answer_of, last_of, answers_of, refused_of}
-use Rattle.tape.specs.Tape.{kind_of, size_of, event_of, events_from, events_of}
+use Rattle.wire.specs.Wire.{any_busy, barred, next_of, masters_level, wire_of, replied, answer_from, answer_of, counted_from, last_of, answers_of, refused_of}
+use Rattle.tape.specs.declared.Read.{Read}
+use Rattle.tape.specs.Tape.{kind_of, size_of, event_of, read_of, events_from, events_of}
 use Rattle.tape.specs.Promises.{NoFault}
 use Rattle.tape.proofs.TapeLaws.{events_are, begins, scanned}
 use Rattle.tape.specs.Tape.{tape_fault, scan_of}
@@ -191,6 +192,20 @@ module _ {n : ℕ} {who : List ℕ} {talker : ℕ} {others : Stage} {any : Bool}
         by : (u : Bool) → t ≡ u → After n ds talker others ev hs₀ pages₀ bus₀ hs pages bus low next b u
         by true e = p.same e
         by false e = ended w ev (masters_level ev) (q.bars ∙ e) j (rw (at_span e) at h) m (p.along ds w e)
+
+-- a whole turn of a run, by what its calls answer: the event read, whether it is carried out, whom it concerns, the pass over these devices, and what is kept
+pub ran_turn : {n : ℕ} {bus₀ tape who answers₀ answers : List ℕ} {hs : List Head} {pages bus : List ℕ} {others : Stage} {talker : ℕ} {any : Bool} {refused at i : ℕ}
+    → (r : Ran n bus₀ tape who answers₀ answers hs pages bus others talker any refused at i) → at < length tape
+    → (e : Read) → e ≡ read_of (drop at tape) → (t : Bool) → t ≡ barred e.event any → (k : ℕ) → k ≡ called others → (s : Span) → s ≡ span_of e.event t others talker (get_or who k 0) n
+    → {hs' : List Head} {pages' bus' : List ℕ} {j low next : ℕ} {b : Bool} → Inner n who talker others any hs pages bus e.event t s hs' pages' bus' j low next b → s.to ≤ j → j ≤ n
+    → (o : Stage) → o ≡ pick t others (others_after e.event others) → (k' : ℕ) → k' ≡ pick t talker next → (a : Bool) → a ≡ pick t any b
+    → (x : ℕ) → x ≡ answer_from t e.event low → (m : ℕ) → m ≡ counted_from t
+    → Ran n bus₀ tape who answers₀ (set answers i x) hs' pages' bus' o k' a (refused + m) (at + e.size) (i + 1)
+ran_turn {n} {tape = tape} {who = who} {others = others} {talker = talker} {any = any} {at = at} r h e ee t et k ek s es {hs' = hs'} {pages' = pages'} {bus' = bus'} {low = low} {next = next} {b = b} p d f o eo k' ek' a ea x ex m em =
+    let q = turns_by n who talker others any e.event t k s et ek es in
+    let u = inner_done t s q p d f r.ds r.wired in
+    let y = ran_more r h t (rw ee at (sym et)) hs' pages' bus' low next b (rw ee at u) in
+    simp (em, ex, ea, ek', eo, ee) y
 
 -- ---- the first moment
 pub ran_none : (n : ℕ) (bus tape who answers : List ℕ) (hs : List Head) (pages : List ℕ) → Wired n (devices_of bus) who 8 Standby false hs pages bus → (tape_fault tape).number ≡ 0

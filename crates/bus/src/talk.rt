@@ -120,6 +120,7 @@ fn span_in(ev: Event, others: Stage, talker: usize, named: usize, count: usize) 
 }
 
 // The devices that an event is played on; `named` is the one with the slave address that is called.
+#[tactic(auto, unfolding(crate::specs::Held::span_of))]
 pub fn span_of(
     ev: Event,
     barred: bool,
