@@ -1,8 +1,9 @@
 // What the trace program writes: "refused N", or a header and a line for each event.
 use bus::Ran;
 use chip::Event;
-
-const STDOUT: i32 = 1;
+use itoa::Buffer;
+use std::io;
+use std::io::Write;
 
 // A byte at a place of the text, and the place after it; nothing where the room ends.
 fn put(out: &mut [u8], at: usize, b: u8) -> usize {
@@ -33,9 +34,8 @@ fn put_all(out: &mut [u8], at: usize, from: &[u8]) -> usize {
 }
 
 fn put_decimal(out: &mut [u8], at: usize, n: usize) -> usize {
-    let mut digits = [0u8; 20];
-    let k = io::decimal(n as u64, &mut digits);
-    put_all(out, at, &digits[..k])
+    let mut digits = Buffer::new();
+    put_all(out, at, digits.format(n).as_bytes())
 }
 
 // Two hex digits, as document 01's example has them.
@@ -123,8 +123,9 @@ pub fn traced(bus: &mut [u8], tape: &[u8], answers: &mut [u8], out: &mut [u8]) -
     }
 }
 
-pub fn show(text: &[u8], n: usize) {
+pub fn show(rt: &HostRuntime, text: &[u8], n: usize) -> io::Result<()> {
     if n <= text.len() {
-        io::write_all(STDOUT, &text[0..n]);
+        return rt.stdout().write_all(&text[0..n]);
     }
+    Ok(())
 }
