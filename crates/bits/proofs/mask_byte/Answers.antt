@@ -1,4 +1,4 @@
-use Rattle.std.proofs.Common.{arith, rules}
+use Rattle.std.proofs.Common.{rules}
 use Rattle.bits.specs.Bytes.{mask_byte}
 use Rattle.bits.proofs.mask_byte.Goals as goal
 
