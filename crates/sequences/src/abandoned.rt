@@ -55,10 +55,10 @@ fn arrives(bytes: [u8; 4], n: u8) -> bool {
     random_read(d, CELL) == NEW
 }
 
-fn lists(n: u8, is_so: bool) {
+fn lists(rt: &impl Print, n: u8, is_so: bool) {
     if is_so {
-        text::letter(b' ');
-        text::decimal(n as u64);
+        text::letter(rt, b' ');
+        text::decimal(rt, n as u64);
     }
 }
 
@@ -70,41 +70,51 @@ fn shows(sign: Sign, bytes: [u8; 4], n: u8) -> bool {
 }
 
 // A line with the numbers of frames after which a command shows the sign.
-fn tries(words: &[u8], sign: Sign, bytes: [u8; 4]) {
-    text::write(words);
+fn tries(rt: &impl Print, words: &[u8], sign: Sign, bytes: [u8; 4]) {
+    text::write(rt, words);
     let mut n: u8 = 0;
     while n <= FRAMES {
-        lists(n, shows(sign, bytes, n));
+        lists(rt, n, shows(sign, bytes, n));
         n += 1;
     }
-    text::letter(b'\n');
+    text::letter(rt, b'\n');
 }
 
-pub fn plays() {
+pub fn plays(rt: &impl Print) {
     let page = [0xA0, CELL, NEW, 0x5D];
-    text::write(b"\nA Null after each number of frames, 0 to 36\n");
+    text::write(rt, b"\nA Null after each number of frames, 0 to 36\n");
     tries(
+        rt,
         b"6.2 N A0 2A 5C 5D, cell 2Ah reads 5Ch after",
         Sign::Arrives,
         page,
     );
-    tries(b"6.2 N A0 2A 5C 5D programs after", Sign::Programs, page);
     tries(
+        rt,
+        b"6.2 N A0 2A 5C 5D programs after",
+        Sign::Programs,
+        page,
+    );
+    tries(
+        rt,
         b"6.4 N B0 12 5C 5D programs after",
         Sign::Programs,
         [0xB0, 0x12, 0x5C, 0x5D],
     );
     tries(
+        rt,
         b"6.5 N 20 60 00 00 programs after",
         Sign::Programs,
         [0x20, 0x60, 0x00, 0x00],
     );
     tries(
+        rt,
         b"8.2.2 N 70 01 FF FF programs after",
         Sign::Programs,
         [0x70, 0x01, 0xFF, 0xFF],
     );
     tries(
+        rt,
         b"8.2.3 N 10 55 AA AA programs after",
         Sign::Programs,
         [0x10, 0x55, 0xAA, 0xAA],

@@ -2,8 +2,9 @@
 use crate::bench;
 use crate::device::Part;
 
-fn cells() {
+fn cells(rt: &impl Print) {
     bench::plays(
+        rt,
         Part::At21cs01,
         b"
 Cut
@@ -16,8 +17,9 @@ pointer 00h after it: N A0 10 N A1 - (0000000000000000) N A1 -
     );
 }
 
-fn one_way_bits() {
+fn one_way_bits(rt: &impl Print) {
     bench::plays(
+        rt,
         Part::At21cs01,
         b"lock, lowest mask bit 0: N 20 60 00 N (FFFFFFFFFFFFFFFE) N 20 60
 lock, lowest mask bit 1: N 20 60 00 N (0000000000000001) N 20 60
@@ -30,7 +32,7 @@ freeze, lowest mask bit 1: N 10 55 AA N (0000000000000001) N 10
     );
 }
 
-pub fn plays() {
-    cells();
-    one_way_bits();
+pub fn plays(rt: &impl Print) {
+    cells(rt);
+    one_way_bits(rt);
 }

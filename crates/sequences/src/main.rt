@@ -16,21 +16,22 @@ mod wire;
 mod writing;
 mod zones;
 
-fn main() {
-    trace::example();
+fn main(rt: HostRuntime) {
+    trace::example(&rt);
     text::write(
+        &rt,
         b"
 N Null, W Wait, R:p Reset, C(mask):p Cut, p the level of the discovery response
 A0:0 a byte sent and its answer, <5C:1 a byte read and the master's ninth bit
 ?30=FF what a cell holds, not over the wire
 ",
     );
-    writing::plays();
-    abandoned::plays();
-    security::plays();
-    speed::plays();
-    reading::plays();
-    zones::plays();
-    cut::plays();
-    reset::plays();
+    writing::plays(&rt);
+    abandoned::plays(&rt);
+    security::plays(&rt);
+    speed::plays(&rt);
+    reading::plays(&rt);
+    zones::plays(&rt);
+    cut::plays(&rt);
+    reset::plays(&rt);
 }

@@ -2,8 +2,9 @@
 use crate::device::Part;
 use crate::{bench, text};
 
-fn main_array() {
+fn main_array(rt: &impl Print) {
     bench::plays(
+        rt,
         Part::At21cs01,
         b"
 Reading
@@ -18,8 +19,9 @@ Reading
 }
 
 // Document 01: "three ID bytes, each next one asked for as above, then standby; the pointer stays".
-fn manufacturer_id(part: Part) {
+fn manufacturer_id(rt: &impl Print, part: Part) {
     bench::plays(
+        rt,
         part,
         b"7.5 R/W 0: N C0
 7.5 the pointer is set: N A0 02 12 W N A0 02
@@ -29,10 +31,10 @@ fn manufacturer_id(part: Part) {
     );
 }
 
-pub fn plays() {
-    main_array();
-    text::write(b"\nManufacturer ID, AT21CS01\n");
-    manufacturer_id(Part::At21cs01);
-    text::write(b"\nManufacturer ID, AT21CS11\n");
-    manufacturer_id(Part::At21cs11);
+pub fn plays(rt: &impl Print) {
+    main_array(rt);
+    text::write(rt, b"\nManufacturer ID, AT21CS01\n");
+    manufacturer_id(rt, Part::At21cs01);
+    text::write(rt, b"\nManufacturer ID, AT21CS11\n");
+    manufacturer_id(rt, Part::At21cs11);
 }

@@ -12,18 +12,19 @@ fn answer_at(address: u8) -> u8 {
     t.level
 }
 
-fn answers() {
-    text::write(b"6.4 answers to data at 00h to 1Fh: ");
+fn answers(rt: &impl Print) {
+    text::write(rt, b"6.4 answers to data at 00h to 1Fh: ");
     let mut address = 0;
     while address < ADDRESSES {
-        text::bit(answer_at(address));
+        text::bit(rt, answer_at(address));
         address += 1;
     }
-    text::letter(b'\n');
+    text::letter(rt, b'\n');
 }
 
-fn register() {
+fn register(rt: &impl Print) {
     bench::plays(
+        rt,
         Part::At21cs01,
         b"
 Security Register
@@ -46,7 +47,7 @@ Security Register
     );
 }
 
-pub fn plays() {
-    register();
-    answers();
+pub fn plays(rt: &impl Print) {
+    register(rt);
+    answers(rt);
 }

@@ -2,8 +2,9 @@
 use crate::device::Part;
 use crate::{bench, text};
 
-fn speeds(part: Part) {
+fn speeds(rt: &impl Print, part: Part) {
     bench::plays(
+        rt,
         part,
         b"6.6 high at first: N E1 N D1
 6.6.1 standard speed: N D0 N D1 N E1
@@ -12,9 +13,9 @@ fn speeds(part: Part) {
     );
 }
 
-pub fn plays() {
-    text::write(b"\nSpeed, AT21CS01\n");
-    speeds(Part::At21cs01);
-    text::write(b"\nSpeed, AT21CS11\n");
-    speeds(Part::At21cs11);
+pub fn plays(rt: &impl Print) {
+    text::write(rt, b"\nSpeed, AT21CS01\n");
+    speeds(rt, Part::At21cs01);
+    text::write(rt, b"\nSpeed, AT21CS11\n");
+    speeds(rt, Part::At21cs11);
 }

@@ -1,17 +1,16 @@
-// Text on standard output, with bytes as two hex digits.
-use libc::STDOUT_FILENO;
+// Text on standard output, with bytes as two hex digits. What cannot be written is passed over: the plays go on to their end.
 
-pub fn write(words: &[u8]) {
-    io::write_all(STDOUT_FILENO, words);
+pub fn write(rt: &impl Print, words: &[u8]) {
+    let _ = rt.write_all(words);
 }
 
-pub fn letter(c: u8) {
+pub fn letter(rt: &impl Print, c: u8) {
     let words = [c];
-    write(&words);
+    write(rt, &words);
 }
 
-pub fn decimal(n: u64) {
-    io::print_decimal(STDOUT_FILENO, n);
+pub fn decimal(rt: &impl Print, n: u64) {
+    let _ = rt.print(n);
 }
 
 fn digit(x: u8) -> u8 {
@@ -22,27 +21,27 @@ fn digit(x: u8) -> u8 {
     b'A' + (k - 10)
 }
 
-pub fn bit(x: u8) {
-    letter(digit(x % 2));
+pub fn bit(rt: &impl Print, x: u8) {
+    letter(rt, digit(x % 2));
 }
 
-pub fn byte(x: u8) {
-    letter(digit(x / 16));
-    letter(digit(x));
+pub fn byte(rt: &impl Print, x: u8) {
+    letter(rt, digit(x / 16));
+    letter(rt, digit(x));
 }
 
 // A byte that went over the wire, and the bit of its ninth frame.
-pub fn exchange(passed: u8, ninth: u8) {
-    byte(passed);
-    letter(b':');
-    bit(ninth);
+pub fn exchange(rt: &impl Print, passed: u8, ninth: u8) {
+    byte(rt, passed);
+    letter(rt, b':');
+    bit(rt, ninth);
 }
 
 // A mask's eight bytes, number 7 first.
-pub fn mask(m: u64) {
+pub fn mask(rt: &impl Print, m: u64) {
     let mut k: u8 = 8;
     while 0 < k {
         k -= 1;
-        byte(bits::mask_byte(m, k));
+        byte(rt, bits::mask_byte(m, k));
     }
 }

@@ -74,31 +74,31 @@ fn refused(found: [u8; EVENTS]) -> u64 {
     n
 }
 
-fn line(index: u64, letter: u8, found: u8) {
-    text::decimal(index);
-    text::letter(b' ');
-    text::letter(letter);
-    text::letter(b' ');
-    text::byte(found);
-    text::letter(b'\n');
+fn line(rt: &impl Print, index: u64, letter: u8, found: u8) {
+    text::decimal(rt, index);
+    text::letter(rt, b' ');
+    text::letter(rt, letter);
+    text::letter(rt, b' ');
+    text::byte(rt, found);
+    text::letter(rt, b'\n');
 }
 
-fn lines(letters: [u8; EVENTS], found: [u8; EVENTS]) {
+fn lines(rt: &impl Print, letters: [u8; EVENTS], found: [u8; EVENTS]) {
     let mut i = 0;
     while i < EVENTS {
-        line(i as u64, letters[i], found[i]);
+        line(rt, i as u64, letters[i], found[i]);
         i += 1;
     }
 }
 
 // One AT21CS11 at address 0.
-pub fn example() {
+pub fn example(rt: &impl Print) {
     let letters = *b"N101000001";
     let found = answers(letters);
-    text::write(b"events ");
-    text::decimal(EVENTS as u64);
-    text::write(b" refused ");
-    text::decimal(refused(found));
-    text::letter(b'\n');
-    lines(letters, found);
+    text::write(rt, b"events ");
+    text::decimal(rt, EVENTS as u64);
+    text::write(rt, b" refused ");
+    text::decimal(rt, refused(found));
+    text::letter(rt, b'\n');
+    lines(rt, letters, found);
 }

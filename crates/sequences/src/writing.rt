@@ -2,8 +2,9 @@
 use crate::bench;
 use crate::device::Part;
 
-fn byte_write() {
+fn byte_write(rt: &impl Print) {
     bench::plays(
+        rt,
         Part::At21cs01,
         b"
 Writing
@@ -16,8 +17,9 @@ Writing
 }
 
 // The last four of twelve bytes replace the first four of the page; the next page is untouched.
-fn page_write() {
+fn page_write(rt: &impl Print) {
     bench::plays(
+        rt,
         Part::At21cs01,
         b"6.3 page write of twelve bytes: N A0 40 01 02 03 04 05 06 07 08 09 0A 0B 0C W
 6.3 the pointer is inside the page: N A1 -
@@ -29,8 +31,9 @@ fn page_write() {
     );
 }
 
-fn during_a_cycle() {
+fn during_a_cycle(rt: &impl Print) {
     bench::plays(
+        rt,
         Part::At21cs01,
         b"6.1 a cycle runs: N A0 30 5A N
 6.1 frames, a Null and a Reset meanwhile: A0 31 77 N A0 R
@@ -40,8 +43,8 @@ fn during_a_cycle() {
     );
 }
 
-pub fn plays() {
-    byte_write();
-    page_write();
-    during_a_cycle();
+pub fn plays(rt: &impl Print) {
+    byte_write(rt);
+    page_write(rt);
+    during_a_cycle(rt);
 }

@@ -2,8 +2,9 @@
 use crate::bench;
 use crate::device::Part;
 
-pub fn plays() {
+pub fn plays(rt: &impl Print) {
     bench::plays(
+        rt,
         Part::At21cs01,
         b"
 ROM zones
