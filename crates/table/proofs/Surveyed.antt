@@ -1,6 +1,6 @@
 -- One pass over the heads of a table judges it as specs/WellFormed.antt does.
 --     talks-none, talks-one, talks-cycle, talks-more       each case of `talks_of`
---     seen_more, seen_all      what the pass has seen before turn i + 1, and after the last
+--     seen_more, all_seen      what the pass has seen before turn i + 1, and after the last
 --     busy-is, well-is, verdict-is     what it says of a whole table
 use Prim.Native.Nat.{ℕ, zero, suc, ◌+◌, ◌%◌, ◌<◌, ◌≤◌}
 use native.Mathlib.Omega.{arith}
@@ -57,10 +57,10 @@ seen_suc (suc i) s (x ∷ xs) d l = seen_suc i (seen s (head_of x)) xs d (le_of_
 pub seen_more : (i : ℕ) (s : Survey) (ds : List Device) (d : Device) → i < length ds → seen (seen_all s (take i ds)) (head_of (get_or ds i d)) ≡ seen_all s (take (i + 1) ds)
 seen_more i s ds d l = rw add-one (seen_suc i s ds d l)
 
-pub seen_all : (s : Survey) (ds : List Device) → seen_all s (take (length ds) ds) ≡ seen_all s ds
+pub all_seen : (s : Survey) (ds : List Device) → seen_all s (take (length ds) ds) ≡ seen_all s ds
 unfolding seen_all
-seen_all s [] = refl
-seen_all s (x ∷ xs) = seen_all (seen s (head_of x)) xs
+all_seen s [] = refl
+all_seen s (x ∷ xs) = all_seen (seen s (head_of x)) xs
 
 -- ---- tests one after the other
 both_last : (a : Bool) → a ≡ both a true

@@ -26,6 +26,7 @@ fn good_part(part: u8) -> bool
 }
 
 // The loaded fields obey the rules; `least` is the least slave address that is above the one before.
+#[tactic(auto, unfolding(crate::specs::WellFormed::good_load))]
 pub fn good_load(least: u8, h: Head) -> bool
     ensures { result ≡ good_load least (bare h) }
 {
@@ -42,6 +43,7 @@ pub fn good_load(least: u8, h: Head) -> bool
 }
 
 // What a device is in, whatever the others do.
+#[tactic(auto, unfolding(crate::specs::WellFormed::good_device))]
 pub fn good_device(h: Head) -> bool
     ensures { result ≡ good_device (bare h) }
 {

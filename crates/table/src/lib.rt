@@ -35,7 +35,6 @@ pub struct Verdict {
 }
 
 // One pass over the heads of the lent devices, each read field by field where it lies.
-// The borrow checker covers no function that has a slice of structs among its locals: this one is walked by hand, and leaves every decision to what it calls.
 pub fn judge(table: &[Device]) -> Verdict
     ensures { result ≡ verdict_of table.now }
 {

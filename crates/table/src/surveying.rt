@@ -25,6 +25,7 @@ fn both(a: bool, b: bool) -> bool
 
 impl Survey {
     // Before the first device.
+    #[tactic(auto, unfolding(crate::specs::Survey::unseen))]
     pub fn none() -> Survey
         ensures { result ≡ unseen }
     {
@@ -43,6 +44,7 @@ impl Survey {
     }
 
     // With one more head.
+    #[tactic(auto, unfolding(crate::specs::Survey::seen))]
     pub fn with(
         self,
         part: u8,
@@ -82,6 +84,7 @@ impl Survey {
         }
     }
 
+    #[tactic(auto, unfolding(crate::specs::Survey::talks_of))]
     fn talks(self, count: usize) -> bool
         ensures { result ≡ talks_of self count }
     {
@@ -98,6 +101,7 @@ impl Survey {
         false
     }
 
+    #[tactic(auto, unfolding(crate::specs::Survey::well_of))]
     fn well_formed(self, count: usize) -> bool
         ensures { result ≡ well_of self count }
     {

@@ -82,6 +82,7 @@ pub fn same_as(n: u8, x: u8, s: Stage) -> bool
 }
 
 // Whether it agrees with the first that reads its device address, if there is one before it.
+#[tactic(auto, unfolding(crate::specs::Survey::same_with))]
 pub fn same_with(first: Stage, s: Stage) -> bool
     ensures { result ≡ same_with first s }
 {
@@ -95,6 +96,7 @@ pub fn same_with(first: Stage, s: Stage) -> bool
     }
 }
 
+#[tactic(auto, unfolding(crate::specs::Survey::first_of))]
 pub fn first_of(first: Stage, s: Stage) -> Stage
     ensures { result ≡ first_of first s }
 {
