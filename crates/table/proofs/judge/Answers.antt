@@ -1,6 +1,5 @@
-use Rattle.std.proofs.Common.{◌≡◌, ℕ, ◌+◌, ◌-◌, ◌<◌, ◌≤◌, ◌∙◌, ap, length, take, arith}
-use Rattle.table.specs.declared.Survey.{Survey}
-use Rattle.table.specs.Survey.{unseen, seen, seen_all}
+use Rattle.std.proofs.Common.{◌≡◌, length, arith}
+use Rattle.table.specs.Survey.{seen_all}
 use Rattle.table.proofs.Surveyed.{seen_more, all_seen, verdict_is}
 use Rattle.table.proofs.judge.Goals as goal
 
