@@ -1,12 +1,12 @@
 -- The numbers of the refusals: what each says of a table and a room.
---     not-zero, is_zero        the test of a number.        good_of      0 is the number of a well-formed table.        many     more than eight devices are none.        save-refused, save-done     a save, by its number
+--     good_of      0 is the number of a well-formed table.        many     more than eight devices are none.        save-refused, save-done     a save, by its number
 use Prim.Native.Nat.{ℕ, ◌*◌, ◌<◌, ◌≤◌}
 use native.Mathlib.Omega.{arith}
-use mathlib.Core.Path.{◌≡◌, refl, subst}
-use mathlib.Core.Bool.{Bool, true, false, not}
+use mathlib.Core.Path.{◌≡◌, refl}
+use mathlib.Core.Bool.{Bool, true, false}
 use mathlib.Core.List.{List}
-use borrow.Author.Tests.{ltb-false, eqb-true, eq-eqb, ne_eqb, lt-leb}
-use lib.Dec.{T as Holds, eqb, ltb}
+use borrow.Author.Tests.{ltb-false, eq-eqb, ne_eqb, lt-leb}
+use lib.Dec.{ltb}
 use lib.ListN.{length}
 use Rattle.bits.specs.Words.{pick}
 use Rattle.chip.specs.declared.Device.{Device}
@@ -20,17 +20,6 @@ use Rattle.lent.specs.Order.{save_number_of}
 pub good_of : (g : Bool) (n : ℕ) → pick g n 15 ≡ 0 → (g ≡ true) × (n ≡ 0)
 good_of true n e = (refl, e)
 good_of false n e = absurd (let w : ◌≡◌ {A = ℕ} 15 0 = e in omega arith)
-
--- what the test of a number says
-pub not_zero : (n : ℕ) → Holds (not (eqb n 0)) → n ≡ 0 → ⊥
-not_zero n t e = subst (λ (x : Bool). Holds (not x)) (eq-eqb n 0 e) t
-
-pub is_zero : (n : ℕ) → Holds (not (not (eqb n 0))) → n ≡ 0
-is_zero n t = go (eqb n 0) refl t
-  where
-    go : (x : Bool) → eqb n 0 ≡ x → Holds (not (not x)) → n ≡ 0
-    go true e t = eqb-true n 0 e
-    go false e t = absurd t
 
 pub many : (ds : List Device) → most_records < length ds → false ≡ well_formed ds
 unfolding well_formed

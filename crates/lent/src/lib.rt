@@ -1,7 +1,6 @@
 // Document 01's step and save over the devices that a caller lends as one table, in place. One pass over the heads judges the table (crate table); in a second each
 // device takes the event, or has its record written. No device is copied: the fields of its head are read and stored one by one, and its bytes are lent where they
-// lie to the covered functions that show and change them. The borrow checker covers no function that has a slice of structs among its locals: those below are
-// walked by hand, and every decision is in orders.rt.
+// lie to the functions that show and change them. Every decision is in orders.rt.
 #![tactic(auto)]
 
 mod orders;
@@ -9,7 +8,7 @@ mod orders;
 ghost use Rattle.std.specs.Prelude.{◌≡◌, ◌*◌, ◌≤◌, length};
 ghost use Rattle.wire.specs.Wire.{masters_level};
 ghost use Rattle.image.specs.Layout.{record_size};
-ghost use Rattle.image.specs.Image.{laid, saved_of};
+ghost use Rattle.image.specs.Image.{laid, record_of, saved_at, saved_of};
 ghost use Rattle.lent.specs.Step.{stepped_of, step_answer};
 ghost use Rattle.lent.specs.Save.{save_answer, saved_room};
 ghost use Rattle.lent.specs.Order.{taken_all, wire_by};
@@ -62,6 +61,17 @@ fn carry_out(table: &mut [Device], order: Order) -> u8
     level
 }
 
+// The record of one device at a place of the room, a function of its own for the second promise: a proof knows how long the arrays of a device are where it is lent
+// by itself, and not where it lies in a table.
+fn save_one(room: &mut [u8], at: usize, d: &Device)
+    ensures placed { room.new ≡ saved_at room.old at d.now }
+    ensures whole { length (record_of d.now) ≡ record_size }
+{
+    image::save_record(
+        room, at, d.part, d.slave, d.id, d.flags, &d.main, &d.serial, &d.user,
+    );
+}
+
 // The record of each device, one after the other.
 fn save_records(table: &[Device], room: &mut [u8])
     requires { record_size * length table.now ≤ length room.old }
@@ -69,18 +79,7 @@ fn save_records(table: &[Device], room: &mut [u8])
 {
     let mut i: usize = 0;
     while i < table.len() {
-        let d = &table[i];
-        image::save_record(
-            room,
-            i * RECORD_SIZE,
-            d.part,
-            d.slave,
-            d.id,
-            d.flags,
-            &d.main,
-            &d.serial,
-            &d.user,
-        );
+        save_one(room, i * RECORD_SIZE, &table[i]);
         i += 1;
     }
 }

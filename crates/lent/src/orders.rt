@@ -40,6 +40,7 @@ pub fn save_number(seen: Verdict, count: usize, room: usize) -> u8
 }
 
 // What a step over a table so judged is to do.
+#[tactic(auto, unfolding(crate::specs::Order::order_of))]
 pub fn ordered(seen: Verdict, kind: u8, mask: u64) -> Order
     ensures { result ≡ order_of seen kind mask }
 {
@@ -90,6 +91,7 @@ impl Order {
     }
 
     // What the head with these fields makes of it.
+    #[tactic(auto, unfolding(crate::specs::Order::framed_by))]
     pub fn frame(
         self,
         part: u8,
@@ -119,6 +121,7 @@ impl Order {
     }
 
     // The answer to the step, by the wire's level.
+    #[tactic(auto, unfolding(crate::specs::Order::reply_of))]
     pub fn answer(self, level: u8) -> Stepped
         ensures { result ≡ reply_of self level }
     {

@@ -1,3 +1,4 @@
+-- One more device is seen, and at the end all of them: what the pass says is the verdict (Surveyed.antt).
 use Rattle.std.proofs.Common.{◌≡◌, length, arith}
 use Rattle.table.specs.Survey.{seen_all}
 use Rattle.table.proofs.Surveyed.{seen_more, all_seen, verdict_is}
