@@ -1,5 +1,4 @@
-// The program keeps its devices in an array, and lends the first of them, as one table, to a step and to a save. A lent slice of devices is a local of these two
-// functions, so they are walked by hand, and are thin; their callers are not.
+// The program keeps its devices in an array, and lends the first of them, as one table, to a step and to a save.
 ghost use Rattle.std.specs.Prelude.{◌≡◌, length};
 ghost use Rattle.lent.specs.Save.{save_answer, saved_room};
 ghost use Rattle.plays.specs.Lending.{lent_of, played_of};
@@ -21,6 +20,7 @@ pub struct Played {
 }
 
 // A step over the first devices.
+#[tactic(auto, unfolding(crate::specs::Lending::played_of))]
 pub fn step(devices: [Device; KEPT], count: usize, kind: u8, mask: u64) -> Played
     ensures { result ≡ played_of devices count kind mask }
 {

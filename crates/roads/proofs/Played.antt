@@ -10,7 +10,7 @@ use Rattle.chip.specs.declared.Event.{Event}
 use Rattle.faults.proofs.FaultLaws.{first}
 use Rattle.tape.specs.Tape.{events_of}
 use Rattle.tape.specs.Promises.{Bytes}
-use Rattle.wire.specs.Wire.{answers_of}
+use Rattle.wire.specs.Wire.{next_of, answers_of}
 use Rattle.wire.specs.Promises.{count80}
 use Rattle.image.specs.Scan.{bus_fault}
 use Rattle.image.specs.Image.{devices_of}
@@ -29,7 +29,7 @@ bytes_back (x ∷ xs) = ap (λ (l : List ℕ). x ∷ l) (bytes_back xs)
 long : (ds : List Device) (evs : List Event) → length (answers_of ds evs) ≡ length evs
 unfolding answers_of
 long ds [] = refl
-long ds (ev ∷ evs) = ap suc (long _ evs)
+long ds (ev ∷ evs) = ap suc (long (next_of ds ev) evs)
 
 module _ (bus tape answers : List ℕ) (b : Bytes tape) (e : (run_fault bus tape (length answers)).number ≡ 0) where
   bus_good : (bus_fault bus).number ≡ 0
