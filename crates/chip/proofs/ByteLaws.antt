@@ -1,5 +1,5 @@
 -- A drive and an act ask of a device its bytes only.
---     cell-bytes, level-bytes      what stands at an address, and what a drive shows, by the bytes.        acted-bytes      the device after an act, by the bytes after it
+--     cell_bytes, level_bytes      what stands at an address, and what a drive shows, by the bytes.        acted_bytes      the device after an act, by the bytes after it
 use Prim.Native.Nat.{ℕ}
 use mathlib.Core.Path.{◌≡◌, refl}
 use mathlib.Core.List.{[]}

@@ -1,5 +1,5 @@
 -- The numbers of the refusals: what each says of a table and a room.
---     good_of      0 is the number of a well-formed table.        many     more than eight devices are none.        save-refused, save-done     a save, by its number
+--     good_of      0 is the number of a well-formed table.        many     more than eight devices are none.        save_refused, save_done     a save, by its number
 use Prim.Native.Nat.{ℕ, ◌*◌, ◌<◌, ◌≤◌}
 use native.Mathlib.Omega.{arith}
 use mathlib.Core.Path.{◌≡◌, refl}

@@ -1,6 +1,6 @@
 -- The list and the level of `carry_out`, turn by turn.
---     upto o i ds          the devices before turn i: the first i have taken the event.        length-upto, getD-upto, upto-more, upto_all
---     level o i ds w       the wire's level before turn i.        level-more, level_all
+--     upto o i ds          the devices before turn i: the first i have taken the event.        length_upto, get_or_upto, upto_more, upto_all
+--     level o i ds w       the wire's level before turn i.        level_more, level_all
 use Prim.Native.Nat.{ℕ, zero, suc, ◌+◌, ◌<◌}
 use native.Mathlib.Numerals.{add-one}
 use native.Mathlib.Nat.{not-suc-le-zero, le_of_suc-le-suc}
@@ -30,11 +30,11 @@ module _ (o : Order) where
   length_upto (suc i) [] = refl
   length_upto (suc i) (d ∷ ds) = ap suc (length_upto i ds)
 
-  pub get_d_upto : (i : ℕ) (ds : List Device) (d : Device) → get_or (upto i ds) i d ≡ get_or ds i d
+  pub get_or_upto : (i : ℕ) (ds : List Device) (d : Device) → get_or (upto i ds) i d ≡ get_or ds i d
   unfolding upto
-  get_d_upto zero ds d = refl
-  get_d_upto (suc i) [] d = refl
-  get_d_upto (suc i) (x ∷ xs) d = get_d_upto i xs d
+  get_or_upto zero ds d = refl
+  get_or_upto (suc i) [] d = refl
+  get_or_upto (suc i) (x ∷ xs) d = get_or_upto i xs d
 
   upto_suc : (i : ℕ) (ds : List Device) (d : Device) → i < length ds → set (upto i ds) i (taken o (get_or ds i d)) ≡ upto (suc i) ds
   unfolding upto

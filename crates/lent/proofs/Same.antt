@@ -1,5 +1,5 @@
 -- The order that a verdict gives, carried out over the devices of a list, is the step of the list.
---     stays_all, goes-all, wire-all        an order that does not go changes nothing, and one that goes is the wire's event.        as_step      the step
+--     stays_all, goes_all, wire_all        an order that does not go changes nothing, and one that goes is the wire's event.        as_step      the step
 use Prim.Native.Nat.{ℕ}
 use mathlib.Core.Path.{◌≡◌, refl, ap, ◌∙◌}
 use mathlib.Core.Bool.{Bool, true, false}

@@ -1,7 +1,7 @@
 -- One pass over the heads of a table judges it as specs/WellFormed.antt does.
---     talks-none, talks-one, talks-cycle, talks-more       each case of `talks_of`
+--     talks_none, talks_one, talks_cycle, talks_more       each case of `talks_of`
 --     seen_more, all_seen      what the pass has seen before turn i + 1, and after the last
---     busy-is, well-is, verdict-is     what it says of a whole table
+--     busy_is, well_is, verdict_is     what it says of a whole table
 use Prim.Native.Nat.{ℕ, zero, suc, ◌+◌, ◌%◌, ◌<◌, ◌≤◌}
 use native.Mathlib.Omega.{arith}
 use native.Mathlib.Nat.{zero-add, not-suc-le-zero, le_of_suc-le-suc}
