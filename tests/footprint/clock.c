@@ -8,21 +8,16 @@
 
 enum { RECORD = 168, MOST = 8, LARGEST = 4096 };
 
-struct slice {
-    void *at;
-    size_t length;
-};
-
-#define FACE(name)                                                                  \
-    extern void name##_fill(struct slice *table, size_t i, struct slice *record);   \
-    extern uint32_t name##_step(struct slice *table, uint8_t kind, uint64_t mask);
+#define FACE(name)                                                                                         \
+    extern void name##_fill(void *table, size_t devices, size_t i, const void *record, size_t length);     \
+    extern uint32_t name##_step(void *table, size_t devices, uint8_t kind, uint64_t mask);
 FACE(before)
 FACE(after)
 
 static const struct face {
     const char *name;
-    void (*fill)(struct slice *, size_t, struct slice *);
-    uint32_t (*step)(struct slice *, uint8_t, uint64_t);
+    void (*fill)(void *, size_t, size_t, const void *, size_t);
+    uint32_t (*step)(void *, size_t, uint8_t, uint64_t);
 } faces[2] = {{"before", before_fill, before_step}, {"after", after_fill, after_step}};
 
 static _Alignas(64) unsigned char table[MOST * LARGEST];
@@ -38,13 +33,9 @@ static size_t load(const char *name, void *to, size_t most) {
 
 /* The events once over, on devices as they were loaded; what was answered, in one number. */
 static uint64_t play(const struct face *f, size_t devices, size_t events) {
-    struct slice t = {table, devices};
     uint64_t all = 0;
-    for (size_t i = 0; i < devices; i++) {
-        struct slice r = {records + RECORD * i, RECORD};
-        f->fill(&t, i, &r);
-    }
-    for (size_t k = 0; k < events; k++) all = all * 31 + f->step(&t, kinds[k], 0x00FF0FF03CC3A55A);
+    for (size_t i = 0; i < devices; i++) f->fill(table, devices, i, records + RECORD * i, RECORD);
+    for (size_t k = 0; k < events; k++) all = all * 31 + f->step(table, devices, kinds[k], 0x00FF0FF03CC3A55A);
     return all;
 }
 

@@ -19,14 +19,9 @@
 
 enum { MOST = 9, LARGEST = 4096, RECORD = 168 };
 
-struct slice {
-    void *at;
-    size_t length;
-};
-
-extern void watched_fill(struct slice *table, size_t i, struct slice *record);
-extern uint32_t watched_step(struct slice *table, uint8_t kind, uint64_t mask);
-extern uint32_t watched_save(struct slice *table, struct slice *room);
+extern void watched_fill(void *table, size_t devices, size_t i, const void *record, size_t length);
+extern uint32_t watched_step(void *table, size_t devices, uint8_t kind, uint64_t mask);
+extern uint32_t watched_save(const void *table, size_t devices, void *room, size_t length);
 
 struct place {
     uint8_t reads, writes;
@@ -151,8 +146,7 @@ static void fill(size_t i, unsigned slave, unsigned part) {
     record[2] = part;
     record[3] = slave;
     memcpy(record + 4, "\x00\xD3\x80\x00", 4);
-    struct slice t = {table, MOST}, r = {record, sizeof record};
-    watched_fill(&t, i, &r);
+    watched_fill(table, MOST, i, record, sizeof record);
 }
 
 /* The first byte that is written where device i is put. */
@@ -214,17 +208,15 @@ int main(int count, char **words) {
             for (size_t i = 0; i < lent; i++) fill(i, b + (what == 't' ? i : 0), c);
         } else if (what == 's') {
             if (scanf("%llx %llx", &a, &b) != 2) return 2;
-            struct slice t = {table, lent};
             watch();
-            uint32_t answer = watched_step(&t, a, b);
+            uint32_t answer = watched_step(table, lent, a, b);
             unwatch();
             say("step", answer);
         } else if (what == 'v') {
             if (scanf("%llx", &a) != 1 || a > 2048) return 2;
             unsigned char room[2048];
-            struct slice t = {table, lent}, r = {room, a};
             watch();
-            uint32_t answer = watched_save(&t, &r);
+            uint32_t answer = watched_save(table, lent, room, a);
             unwatch();
             say("save", answer);
         }
