@@ -1,6 +1,6 @@
 /* Borewizard: a proved model of up to eight AT21CS01/AT21CS11 devices on one wire.
  *
- * Link with libborewizard.a, which `rt staticlib borewizard` writes to target/staticlib/.
+ * Link with libborewizard.a, which `tools/build library` writes to target/staticlib/.
  * No function allocates, keeps a pointer after it returns, or needs a call before it. Each returns a number of the refusals, 0 for done:
  *
  *    1  bus file longer than 1,344 bytes or no multiple of 168
