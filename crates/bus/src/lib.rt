@@ -61,12 +61,14 @@ pub fn run(bus: &mut [u8], tape: &[u8], answers: &mut [u8]) -> Ran
 {
     let loaded = image::load(bus);
     let f = loaded.fault;
-    if f.number != 0 {
+    let bus_faulty = f.number != 0;
+    if bus_faulty {
         return Ran::Refused(f);
     }
     let scan = tape::scan_tape(tape);
     let g = scan.fault;
-    if g.number != 0 {
+    let tape_faulty = g.number != 0;
+    if tape_faulty {
         return Ran::Refused(g);
     }
     let events = scan.events;

@@ -3,19 +3,19 @@ use Rattle.std.proofs.Common.{◌∙◌}
 use Rattle.bus.proofs.Answers.{refused_bus, refused_tape, refused_room, done, load_fault, load_table, load_few, scan_fault, scan_count}
 use Rattle.bus.proofs.run.Goals as goal
 
-pub returns-then-f-ne0 : goal.returns-then-f-ne0
-returns-then-f-ne0 c =
+pub returns-then-bus_faulty : goal.returns-then-bus_faulty
+returns-then-bus_faulty c =
     let a = c.args in
     let f = load_fault a.bus.now _ c.load-loaded.ensures in
-    let r = refused_bus a.bus.now a.tape.now a.answers.now (rw f at c.if-f-ne0.true) in
+    let r = refused_bus a.bus.now a.tape.now a.answers.now (rw f at c.if-bus_faulty.true) in
     record { value = rw f r.0; bus_after = r.1.0; answers_after = r.1.1.0; reading = r.1.1.1 }
 
-pub returns-then-g-ne0 : goal.returns-then-g-ne0
-returns-then-g-ne0 c =
+pub returns-then-tape_faulty : goal.returns-then-tape_faulty
+returns-then-tape_faulty c =
     let a = c.args in
     let f = load_fault a.bus.now _ c.load-loaded.ensures in
     let g = scan_fault a.tape.now _ c.scan_tape-scan.ensures in
-    let r = refused_tape a.bus.now a.tape.now a.answers.now (rw f at c.if-f-ne0.false) (rw g at c.if-g-ne0.true) in
+    let r = refused_tape a.bus.now a.tape.now a.answers.now (rw f at c.if-bus_faulty.false) (rw g at c.if-tape_faulty.true) in
     record { value = rw g r.0; bus_after = r.1.0; answers_after = r.1.1.0; reading = r.1.1.1 }
 
 pub returns-then-answers-events : goal.returns-then-answers-events
@@ -23,9 +23,9 @@ returns-then-answers-events c =
     let a = c.args in
     let f = load_fault a.bus.now _ c.load-loaded.ensures in
     let g = scan_fault a.tape.now _ c.scan_tape-scan.ensures in
-    let sound = rw g at c.if-g-ne0.false in
+    let sound = rw g at c.if-tape_faulty.false in
     let n = scan_count a.tape.now _ c.scan_tape-scan.ensures sound in
-    let r = refused_room a.bus.now a.tape.now a.answers.now (rw f at c.if-f-ne0.false) sound (rw n at c.if-answers-events.true) in
+    let r = refused_room a.bus.now a.tape.now a.answers.now (rw f at c.if-bus_faulty.false) sound (rw n at c.if-answers-events.true) in
     record { value = rw c.found.ensures r.0; bus_after = r.1.0; answers_after = r.1.1.0; reading = r.1.1.1 }
 
 pub play-refused-requires : goal.play-refused-requires
@@ -33,8 +33,8 @@ play-refused-requires c =
     let a = c.args in
     let f = load_fault a.bus.now _ c.load-loaded.ensures in
     let g = scan_fault a.tape.now _ c.scan_tape-scan.ensures in
-    let clean = rw f at c.if-f-ne0.false in
-    let sound = rw g at c.if-g-ne0.false in
+    let clean = rw f at c.if-bus_faulty.false in
+    let sound = rw g at c.if-tape_faulty.false in
     let n = scan_count a.tape.now _ c.scan_tape-scan.ensures sound in
     (clean, load_table a.bus.now _ c.load-loaded.ensures clean, sound, rw n at c.if-answers-events.false, load_few a.bus.now _ c.load-loaded.ensures clean)
 
@@ -43,8 +43,8 @@ returns c =
     let a = c.args in
     let f = load_fault a.bus.now _ c.load-loaded.ensures in
     let g = scan_fault a.tape.now _ c.scan_tape-scan.ensures in
-    let clean = rw f at c.if-f-ne0.false in
-    let sound = rw g at c.if-g-ne0.false in
+    let clean = rw f at c.if-bus_faulty.false in
+    let sound = rw g at c.if-tape_faulty.false in
     let n = scan_count a.tape.now _ c.scan_tape-scan.ensures sound in
     let p = c.play-refused.ensures in
     let d = done a.bus.now a.tape.now a.answers.now clean sound (rw n at c.if-answers-events.false) in
