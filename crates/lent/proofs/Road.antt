@@ -38,7 +38,7 @@ use Rattle.lent.specs.declared.Stepped.{Stepped}
 use Rattle.lent.specs.declared.Stepped.TheVariants.{Answer}
 use Rattle.lent.specs.declared.Saved.TheVariants.{Done}
 use Rattle.lent.specs.Step.{number_of, answer_byte_of, last_kind, step_number, stepped_of, step_answer}
-use Rattle.lent.specs.Save.{number_of as savedNumberOf, save_number, save_answer, saved_room}
+use Rattle.lent.specs.Save.{number_of as saved_number_of, save_number, save_answer, saved_room}
 use Rattle.lent.specs.Road.{kind_of, mask_of, steps_of, step_answers, Steps, Road}
 use Rattle.lent.proofs.Numbers.{good_of, many}
 
@@ -55,7 +55,7 @@ step_refused : (ds : List Device) (kind mask : ℕ) → (step_number ds kind ≡
 unfolding step_answer stepped_of
 step_refused ds kind mask f = rw (ne_eqb (step_number ds kind) 0 f) (refl, refl)
 
-save_refused : (ds : List Device) (room : List ℕ) → (save_number ds (length room) ≡ 0 → ⊥) → (savedNumberOf (save_answer ds (length room)) ≡ save_number ds (length room)) × (saved_room ds room ≡ room)
+save_refused : (ds : List Device) (room : List ℕ) → (save_number ds (length room) ≡ 0 → ⊥) → (saved_number_of (save_answer ds (length room)) ≡ save_number ds (length room)) × (saved_room ds room ≡ room)
 unfolding save_answer saved_room
 save_refused ds room f = rw (ne_eqb (save_number ds (length room)) 0 f) (refl, refl)
 

@@ -15,7 +15,7 @@ use Rattle.lent.specs.declared.Stepped.{Stepped}
 use Rattle.lent.specs.declared.Stepped.TheVariants.{Answer}
 use Rattle.lent.specs.declared.Saved.TheVariants.{Done}
 use Rattle.lent.specs.Step.{number_of, answer_byte_of, last_kind, step_number, stepped_of, step_answer}
-use Rattle.lent.specs.Save.{number_of as savedNumberOf, save_number, save_answer, saved_room}
+use Rattle.lent.specs.Save.{number_of as saved_number_of, save_number, save_answer, saved_room}
 
 -- ---- the table of the kinds, from an event back to its kind; "for kind 5 only, eight mask bytes"
 abbrev pub kind_of : Event → ℕ
@@ -56,7 +56,7 @@ pub record Road : Type 0 where
   pub save_many : (ds : List Device) (room : ℕ) → most_records < length ds → save_number ds room ≡ 15
   -- "Each returns its number .. and all buffers unaltered."
   pub step_refused : (ds : List Device) (kind mask : ℕ) → (step_number ds kind ≡ 0 → ⊥) → (number_of (step_answer ds kind mask) ≡ step_number ds kind) × (stepped_of ds kind mask ≡ ds)
-  pub save_refused : (ds : List Device) (room : List ℕ) → (save_number ds (length room) ≡ 0 → ⊥) → (savedNumberOf (save_answer ds (length room)) ≡ save_number ds (length room)) × (saved_room ds room ≡ room)
+  pub save_refused : (ds : List Device) (room : List ℕ) → (save_number ds (length room) ≡ 0 → ⊥) → (saved_number_of (save_answer ds (length room)) ≡ save_number ds (length room)) × (saved_room ds room ≡ room)
   -- a done step answers as the wire does, and leaves a well-formed table
   pub step_done : (ds : List Device) (kind mask : ℕ) → step_number ds kind ≡ 0
       → (number_of (step_answer ds kind mask) ≡ 0) × (answer_byte_of (step_answer ds kind mask) ≡ answer_of ds (kind_event kind mask))

@@ -1,7 +1,7 @@
 // The trace program: bus.img and events.trc of the current directory in, a line of text for each event out. It writes no file.
 #![tactic(auto)]
 
-ghost use Rattle.std.specs.Prelude.{◌≤◌, length};
+ghost use Rattle.std.specs.Prelude.{◌≡◌, ◌≤◌, length, take};
 
 mod text;
 
@@ -20,7 +20,7 @@ const TEXT_ROOM: usize = 180288;
 
 // The start of a file into a room, and how many bytes came; a missing file counts as empty.
 fn read_file(rt: &HostRuntime, name: &str, room: &mut [u8]) -> usize
-    ensures { result ≤ length room.new }
+    ensures { (result ≤ length room.new) × (result ≡ length (take result room.new)) }
 {
     match File::open(rt, name) {
         Ok(file) => read_full(file, room),
@@ -30,7 +30,7 @@ fn read_file(rt: &HostRuntime, name: &str, room: &mut [u8]) -> usize
 
 // The bytes of a file until it or the room ends, or no more can be read.
 fn read_full(mut file: File, room: &mut [u8]) -> usize
-    ensures { result ≤ length room.new }
+    ensures { (result ≤ length room.new) × (result ≡ length (take result room.new)) }
 {
     let mut n: usize = 0;
     while n < room.len() {
