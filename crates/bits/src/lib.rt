@@ -186,6 +186,7 @@ pub fn open_zone(flags: u8, address: u8) -> bool
 }
 
 // The mask byte of a cell, by the cell's place in its page.
+#[tactic(auto, unfolding(crate::specs::Bytes::mask_byte))]
 pub fn mask_byte(mask: u64, address: u8) -> u8
     ensures { result ≡ mask_byte mask address }
 {

@@ -1,13 +1,12 @@
-use Rattle.std.proofs.Common.{◌≡◌, refl, sym, ap, ◌∙◌}
+use Rattle.std.proofs.Common.{◌≡◌, refl, ◌∙◌}
 use borrow.Author.Tests.{eq-eqb}
-use Rattle.faults.specs.declared.Fault.{Fault}
 use Rattle.image.specs.Image.{table_of, devices_of, loaded_of}
 use Rattle.image.proofs.Files.{loading_none, loading_place, loading_more, loading_all, table_is}
 use Rattle.image.proofs.loading.load.Goals as goal
 
 pub loop-at-init : goal.loop-at-init
 loop-at-init c =
-    let e = ap (λ (f : Fault). f.number) (sym c.bus_fault-f.ensures) ∙ c.if-f-ne0.false in
+    let e = rw c.bus_fault-f.ensures at c.if-f-ne0.false in
     (e, loading_none _ _ e refl)
 
 pub bounds-devices-count : goal.bounds-devices-count
