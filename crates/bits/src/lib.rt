@@ -1,10 +1,9 @@
 // Bytes taken apart by masks and shifts, and merged. Every function is total.
 #![tactic(auto)]
 
-ghost use Rattle.std.specs.Prelude.{◌≡◌, ◌%◌};
-ghost use Rattle.std.specs.Int.Count.{count_trailing_zeros};
+ghost use Rattle.std.specs.Prelude.{◌≡◌, ◌+◌, ◌%◌};
 ghost use Rattle.bits.specs.Words.{is_not};
-ghost use Rattle.bits.specs.Bytes.{more_of, bit_at, opcode_of, slave_of, read_of, main_address, security_address, after_in, next_in, is_lock_byte, is_freeze_byte, zone_of, is_set};
+ghost use Rattle.bits.specs.Bytes.{more_of, bit_at, opcode_of, slave_of, read_of, main_address, security_address, after_in, next_in, is_lock_byte, is_freeze_byte, zone_of};
 ghost use Rattle.bits.specs.Bytes.{has_flag, with_flag, is_rom, is_frozen, is_locked, zone_at, mask_byte, merged};
 
 // The places of the one-way bits in the flags beside the zones' 0 to 3.
@@ -17,6 +16,9 @@ const LOCK_BYTE: u8 = 6;
 
 const FREEZE_BYTE: u8 = 0x55;
 
+// The last address of a page of eight.
+const LAST_IN_PAGE: u8 = 7;
+
 // The byte so far with one bit more, the most significant first.
 pub fn more(byte: u8, bit: u8) -> u8
     ensures { result ≡ more_of byte bit }
@@ -28,8 +30,7 @@ pub fn more(byte: u8, bit: u8) -> u8
 pub fn bit_at(byte: u8, count: u8) -> u8
     ensures { result ≡ bit_at byte count }
 {
-    let place = 7 - count % 8;
-    (byte >> place) & 1
+    (byte >> (7 - count % 8)) & 1
 }
 
 pub fn opcode(byte: u8) -> u8
@@ -63,25 +64,19 @@ pub fn security_address(byte: u8) -> u8
     byte & 31
 }
 
-// The address that is read after one of the main array.
-pub fn after_main(p: u8) -> u8
-    ensures { result ≡ after_in 128 p }
+// The address after p in a region whose last address is LAST, where it goes round.
+pub fn after_in<const LAST: u8>(p: u8) -> u8
+    ensures { result ≡ after_in (LAST + 1) p }
 {
-    (p % 128 + 1) % 128
-}
-
-// The same of the Security Register.
-pub fn after_security(p: u8) -> u8
-    ensures { result ≡ after_in 32 p }
-{
-    (p % 32 + 1) % 32
+    let size = LAST as u16 + 1;
+    ((p as u16 % size + 1) % size) as u8
 }
 
 // The next address inside a page of eight.
 pub fn next_in_page(p: u8) -> u8
     ensures { result ≡ next_in 8 p }
 {
-    p / 8 * 8 + (p % 8 + 1) % 8
+    p / 8 * 8 + after_in::<LAST_IN_PAGE>(p)
 }
 
 // The byte that 2h takes after its device address.
@@ -98,37 +93,15 @@ pub fn is_freeze_byte(byte: u8) -> bool
     byte == FREEZE_BYTE
 }
 
-// Whether a zone is selected, and which.
-#[derive(Clone, Copy)]
-pub enum Selector {
-    Unset,
-    Zone(u8),
-}
-
-// The place of a byte's lowest one, 8 where it has none.
-fn lowest_one(byte: u8) -> u8
-    ensures { result ≡ count_trailing_zeros 8 byte }
-{
-    u8::trailing_zeros(byte) as u8
-}
-
 // The zone that a zone byte names: the place of the only one among its four low bits.
-pub fn zone_of(byte: u8) -> Selector
+pub fn zone_of(byte: u8) -> Option<u8>
     ensures { result ≡ zone_of byte }
 {
     let low = byte & 15;
-    if u8::count_ones(low) == 1 {
-        return Selector::Zone(lowest_one(low));
-    }
-    Selector::Unset
-}
-
-pub fn is_set(z: Selector) -> bool
-    ensures { result ≡ is_set z }
-{
-    match z {
-        Selector::Unset => false,
-        Selector::Zone(_) => true,
+    if low.count_ones() == 1 {
+        Some(low.trailing_zeros() as u8)
+    } else {
+        None
     }
 }
 
@@ -136,16 +109,14 @@ pub fn is_set(z: Selector) -> bool
 pub fn flag(flags: u8, place: u8) -> bool
     ensures { result ≡ has_flag flags place }
 {
-    let k = place % 8;
-    (flags >> k) & 1 == 1
+    (flags >> (place % 8)) & 1 == 1
 }
 
 // The flags with the one at a place set.
 pub fn with_flag(flags: u8, place: u8) -> u8
     ensures { result ≡ with_flag flags place }
 {
-    let k = place % 8;
-    flags | (1 << k)
+    flags | (1 << (place % 8))
 }
 
 // Whether a zone is ROM.
@@ -159,30 +130,21 @@ pub fn is_rom(flags: u8, zone: u8) -> bool
 pub fn thawed(flags: u8) -> bool
     ensures { result ≡ is_not (is_frozen flags) }
 {
-    if flag(flags, FROZEN) {
-        return false;
-    }
-    true
+    !flag(flags, FROZEN)
 }
 
 // The Security Register is not locked.
 pub fn unlocked(flags: u8) -> bool
     ensures { result ≡ is_not (is_locked flags) }
 {
-    if flag(flags, LOCKED) {
-        return false;
-    }
-    true
+    !flag(flags, LOCKED)
 }
 
 // The zone of a main address is not ROM.
 pub fn open_zone(flags: u8, address: u8) -> bool
     ensures { result ≡ is_not (is_rom flags (zone_at address)) }
 {
-    if is_rom(flags, address % 128 / 32) {
-        return false;
-    }
-    true
+    !is_rom(flags, address % 128 / 32)
 }
 
 // The mask byte of a cell, by the cell's place in its page.
@@ -190,20 +152,7 @@ pub fn open_zone(flags: u8, address: u8) -> bool
 pub fn mask_byte(mask: u64, address: u8) -> u8
     ensures { result ≡ mask_byte mask address }
 {
-    let k = wide(address) % 8;
-    low_byte(mask >> (8 * k))
-}
-
-fn low_byte(x: u64) -> u8
-    ensures { result ≡ x % 256 }
-{
-    (x & 255) as u8
-}
-
-fn wide(x: u8) -> u64
-    ensures { result ≡ x }
-{
-    x as u64
+    ((mask >> (8 * (address % 8))) & 255) as u8
 }
 
 // The new byte's bits where the mask has ones, the old byte's elsewhere.

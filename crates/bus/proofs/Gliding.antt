@@ -1,4 +1,5 @@
 -- Frames played together: a run goes over them as it does over one event after the other.
+use Rattle.std.specs.Prelude.{Option, Some, None}
 use Prim.Native.Nat.{ℕ, suc, ◌+◌, ◌-◌, ◌*◌, ◌/◌, ◌%◌, ◌^◌, ◌<◌, ◌≤◌}
 use native.Mathlib.Omega.{arith}
 use native.Mathlib.Nat.{zero-div}
@@ -9,10 +10,9 @@ use borrow.Author.Tests.{eqb-true, eqb-false, ne_eqb, lt-ltb, le-ltb, ltb-true, 
 use lib.Dec.{eqb, ltb}
 use lib.ListN.{length, get_or, set, length-set}
 use lib.Seq.{get_or-set_same, set-set, set-get_or}
+use Rattle.std.specs.Prelude.{Option, None}
 use Rattle.bits.proofs.Table.{each}
 use Rattle.bits.specs.Bytes.{bit_at, more_of, is_rom}
-use Rattle.bits.specs.declared.Selector.{Selector}
-use Rattle.bits.specs.declared.Selector.TheVariants.{Unset, Zone}
 use Rattle.chip.specs.declared.Device.{Device}
 use Rattle.chip.specs.declared.Head.{Head}
 use Rattle.chip.specs.declared.Framed.{Framed}
@@ -29,16 +29,15 @@ use Rattle.chip.specs.Stages.{register_drive, shows, framed}
 use Rattle.chip.specs.Cycle.{heard}
 use Rattle.bits.proofs.Choices.{choice}
 use Rattle.wire.specs.Wire.{busy, any_busy, pulled}
-use Rattle.tape.specs.Tape.{events_of}
 use Rattle.image.specs.Layout.{record_size}
-use Rattle.image.specs.InPlace.{InPlace}
 use Rattle.bus.specs.declared.Byte.{Byte}
-use Rattle.bus.specs.Held.{blank_head, standing, bit_after, ninth_due, called, past, span, span_of, byte, byte_of, resumed, pointed, glided, shown_in, driven, level_in, page_in, acted_in, put_in, Room, Frames, none, more, Glides, own, apart}
+use Rattle.bus.specs.declared.Progress.{Progress}
+use Rattle.bus.specs.Held.{unplayed, played, number, blank_head, standing, bit_after, ninth_due, called, past, span, span_of, byte, longer, progress, byte_of, resumed, pointed, glided, shown_in, driven, level_in, acted_in, put_to, Frames, none, more, Glides, own, apart}
 use Rattle.bus.proofs.Held.{blank}
 use Rattle.bus.proofs.Landing.{Apart, rests, reads, apart_free, no}
 use Rattle.bus.proofs.Passing.{standing_own, standing_other}
 use Rattle.bus.proofs.Wired.{Wired, talks_alone}
-use Rattle.bus.proofs.Running.{Ran, ran_more, Turns, inner_none, inner_by, inner_done}
+use Rattle.bus.proofs.Running.{Ran, ran_more, Turns, inner_none, inner_played, inner_done}
 use Rattle.bus.proofs.Frames.{bit_size, bit_event, frames_count}
 
 -- ---- one frame of a byte
@@ -89,19 +88,19 @@ module _ (bus : List ℕ) (from : ℕ) (h : Head) (n : ℕ) where
   Shows v w = level_in bus from v ≡ bit_at (shown_in bus from w) n
 
   shows_free : Shows Free Free
-  unfolding level_in shown_in
+  unfolding shown_in
   shows_free = sym (free_bit n)
 
   shows_low : Shows Low Low
-  unfolding level_in shown_in
+  unfolding shown_in
   shows_low = sym (low_bit n)
 
-  shows_register : (z : Selector) → Shows (register_drive h.flags z) (register_drive h.flags z)
-  shows_register Unset = shows_free
-  shows_register (Zone z) = choice (λ (v : Drive). Shows v v) (is_rom h.flags z) shows_free shows_low
+  shows_register : (z : Option ℕ) → Shows (register_drive h.flags z) (register_drive h.flags z)
+  shows_register None = shows_free
+  shows_register (Some z) = choice (λ (v : Drive). Shows v v) (is_rom h.flags z) shows_free shows_low
 
   shows_bit : (s : Stage) → Shows (drives h s n) (driven h s)
-  unfolding level_in shown_in
+  unfolding shown_in
   shows_bit Standby = shows_free
   shows_bit (Address m y) = shows_free
   shows_bit (Place c m y) = shows_free
@@ -179,7 +178,7 @@ unfolding any_busy
 none_programs [] f = refl
 none_programs (d ∷ ds) f = rw (f 0 (omega arith)) (none_programs ds (λ k h. f (suc k) (omega arith)))
 
-wired_calm : {n : ℕ} {ds : List Device} {who : List ℕ} {talker : ℕ} {others : Stage} {any : Bool} {hs : List Head} {pages bus : List ℕ} → Wired n ds who talker others any hs pages bus
+wired_calm : {n : ℕ} {ds : List Device} {who : List (Option ℕ)} {talker : ℕ} {others : Stage} {any : Bool} {hs : List Head} {pages : List (List ℕ)} {bus : List ℕ} → Wired n ds who talker others any hs pages bus
     → (talker < n → busy (get_or hs talker blank_head).stage ≡ false) → any ≡ false
 wired_calm {n} {ds} {who} {talker} {others} {any} {hs} w f = w.programs ∙ none_programs ds (λ k h. let z : k < n = omega (arith, w.held.count) in ap (λ (g : Head). busy g.stage) (w.heads k z) ∙ by k z (eqb k talker) refl)
   where
@@ -188,7 +187,7 @@ wired_calm {n} {ds} {who} {talker} {others} {any} {hs} w f = w.programs ∙ none
     by k h false e = rw (standing_other talker k others (get_or hs k blank_head) (eqb-false k talker e)) (apart_free others w.apart)
 
 -- ---- one frame more
-module _ {n : ℕ} {bus₀ tape who answers₀ answers : List ℕ} {hs : List Head} {pages bus : List ℕ} {others : Stage} {talker : ℕ} {any : Bool} {refused at' i : ℕ}
+module _ {n : ℕ} {bus₀ tape : List ℕ} {who : List (Option ℕ)} {answers₀ answers : List ℕ} {hs : List Head} {pages : List (List ℕ)} {bus : List ℕ} {others : Stage} {talker : ℕ} {any : Bool} {refused at' i : ℕ}
     (r : Ran n bus₀ tape who answers₀ answers hs pages bus others talker any refused at' i) (whole : at' + 3 ≤ length tape) (bit : get_or tape (at' + 2) 0 < 2) (free : any ≡ false) where
   abbrev b : ℕ
   b = get_or tape (at' + 2) 0
@@ -200,27 +199,26 @@ module _ {n : ℕ} {bus₀ tape who answers₀ answers : List ℕ} {hs : List He
   ran_apart : n ≤ talker → ninth_due others ≡ false → Ran n bus₀ tape who answers₀ (set answers i b) hs pages bus (bit_after others b) talker any refused (at' + 3) (i + 1)
   unfolding span_of
   ran_apart none' due =
-      let q : Turns n who talker others any (Bit b) false (span 0 0) = record { bars = free; played = sym played } in
+      let q : Turns n who talker others any (Bit b) false (span 0 0) = record { bars = free; played = sym alone } in
       let a = inner_done false (span 0 0) q (inner_none false (span 0 0) q talker none') (omega arith) (omega arith) r.ds r.wired in
       let e = bit_event tape at' bit in
       let m = ran_more r (omega arith) false (rw e free) hs pages bus (b % 2) talker false (rw e a) in
       let z : refused + 0 ≡ refused = omega arith in
       rw free (rw (e, bit_size tape at' bit, same_bit, z) at m)
     where
-      played : span_of (Bit b) false others talker (get_or who (called others) 0) n ≡ span 0 0
-      played = rw (due, le-ltb talker n none') refl
+      alone : span_of (Bit b) false others talker (number (get_or who (called others) None)) n ≡ span 0 0
+      alone = rw (due, le-ltb talker n none') refl
 
   -- the device that talks hears it
-  ran_own : InPlace → talker < n → talker < length hs → (f : Framed) → f ≡ heard (get_or hs talker blank_head) (Bit b) → f.act ≡ Nothing → past f.head.stage ≡ true → busy f.head.stage ≡ false
+  ran_own : n ≤ 8 → length hs ≡ 8 → talker < n → (f : Framed) → f ≡ heard (get_or hs talker blank_head) (Bit b) → f.act ≡ Nothing → past f.head.stage ≡ true → busy f.head.stage ≡ false
       → Ran n bus₀ tape who answers₀ (set answers i (pulled (level_in bus (record_size * talker) f.drive) b)) (set hs talker f.head) pages bus others talker any refused (at' + 3) (i + 1)
-  unfolding span_of acted_in put_in
-  ran_own back small room f ef idle on' calm =
+  unfolding span_of acted_in put_to
+  ran_own few long small f ef idle on' calm =
       let one = span talker (talker + 1) in
       let o : others ≡ Standby = talks_alone r.wired free small in
-      let q : Turns n who talker others any (Bit b) false one = record { bars = free; played = sym (played o) } in
-      let p = inner_by false one q (inner_none false one q n (omega arith)) back (omega arith) (omega arith) small room (get_or hs talker blank_head)
-      (sym (standing_own talker talker others (get_or hs talker blank_head) refl)) f ef (record_size * talker) refl (level_in bus (record_size * talker) f.drive) (pulled (level_in bus (record_size * talker) f.drive) (b % 2)) refl refl
-      bus kept pages put talker (rw on' refl) false false (sym calm) refl in
+      let q : Turns n who talker others any (Bit b) false one = record { bars = free; played = sym (alone o) } in
+      let e = ef ∙ ap (λ (h : Head). heard h (Bit b)) (sym (standing_own talker talker others (get_or hs talker blank_head) refl)) in
+      let p = rw (idle, set-get_or pages talker [], on', calm) at (inner_played false one q few {hs₀ = hs} {pages₀ = pages} {bus₀ = bus} long (played unplayed e) (omega arith)).0 in
       let a = inner_done false one q p (omega arith) (omega arith) r.ds r.wired in
       let e = bit_event tape at' bit in
       let m = ran_more r (omega arith) false (rw e free) (set hs talker f.head) pages bus (pulled (level_in bus (record_size * talker) f.drive) (b % 2)) talker false (rw e a) in
@@ -228,69 +226,58 @@ module _ {n : ℕ} {bus₀ tape who answers₀ answers : List ℕ} {hs : List He
       let y : bit_after others b ≡ others = rw o refl in
       rw free (rw (e, bit_size tape at' bit, same_bit, z, y) at m)
     where
-      played : others ≡ Standby → span_of (Bit b) false others talker (get_or who (called others) 0) n ≡ span talker (talker + 1)
-      played o = rw (o, lt-ltb talker n small) refl
-
-      kept : bus ≡ acted_in bus (record_size * talker) f.head.flags (page_in pages talker) f.act
-      kept = rw idle refl
-
-      put : pages ≡ put_in pages talker f.act
-      put = rw idle refl
+      alone : others ≡ Standby → span_of (Bit b) false others talker (number (get_or who (called others) None)) n ≡ span talker (talker + 1)
+      alone o = rw (o, lt-ltb talker n small) refl
 
 -- ---- frames one after the other
-module _ {n : ℕ} {bus₀ tape who answers₀ answers : List ℕ} {hs : List Head} {pages bus : List ℕ} {others : Stage} {talker : ℕ} {any : Bool} {refused at' i : ℕ}
-    (r : Ran n bus₀ tape who answers₀ answers hs pages bus others talker any refused at' i) where
+module _ {n : ℕ} {bus₀ tape : List ℕ} {who : List (Option ℕ)} {answers₀ answers : List ℕ} {hs : List Head} {pages : List (List ℕ)} {bus : List ℕ} {others : Stage} {talker : ℕ} {any : Bool} {refused : ℕ} {p₀ : Progress}
+    (r : Ran n bus₀ tape who answers₀ answers hs pages bus others talker any refused p₀.at p₀.answered) where
   abbrev mine : Head
   mine = get_or hs talker blank_head
 
-  abbrev Along : List Head → Stage → ℕ → ℕ → List ℕ → Type 0
-  Along hs' others' at'' i' answers' = Ran n bus₀ tape who answers₀ answers' hs' pages bus others' talker any refused at'' i'
+  abbrev Along : List Head → Stage → Progress → List ℕ → Type 0
+  Along hs' others' p answers' = Ran n bus₀ tape who answers₀ answers' hs' pages bus others' talker any refused p.at p.answered
 
   -- one frame of the byte of the device that talks
-  own_more : InPlace → talker < n → talker < length hs → (byte_of mine.stage).count < 8 → (at'' i' k x : ℕ) (answers' : List ℕ) → k < 8 → at'' + 3 ≤ length tape → get_or tape (at'' + 2) 0 < 2
-      → Along (set hs talker (glided mine (byte k x))) others at'' i' answers'
-      → Along (set hs talker (glided mine (byte (k + 1) (more_of x (get_or tape (at'' + 2) 0))))) others (at'' + 3) (i' + 1)
-      (set answers' i' (pulled (bit_at (shown_in bus (record_size * talker) (driven mine mine.stage)) k) (get_or tape (at'' + 2) 0)))
-  own_more back small room few at'' i' k x answers' low whole bit p =
-      let h = glided mine (byte k x) in
-      let here : get_or (set hs talker h) talker blank_head ≡ h = get_or-set_same hs talker h blank_head room in
+  own_more : n ≤ 8 → length hs ≡ 8 → talker < n → (byte_of mine.stage).count < 8 → (p : Progress) (x : Byte) (answers' : List ℕ) → x.count < 8 → p.at + 3 ≤ length tape → get_or tape (p.at + 2) 0 < 2
+      → Along (set hs talker (glided mine x)) others p answers'
+      → Along (set hs talker (glided mine (longer x (get_or tape (p.at + 2) 0)))) others (progress (p.at + 3) (p.answered + 1))
+      (set answers' p.answered (pulled (bit_at (shown_in bus (record_size * talker) (driven mine mine.stage)) x.count) (get_or tape (p.at + 2) 0)))
+  own_more few long small left p x answers' low whole bit q =
+      let h = glided mine x in
+      let here : get_or (set hs talker h) talker blank_head ≡ h = get_or-set_same hs talker h blank_head (omega arith) in
       let past' = r.wired.beyond small in
-      let calm = free_byte mine.stage few in
-      let b = get_or tape (at'' + 2) 0 in
-      let h' = glided mine (byte (k + 1) (more_of x b)) in
-      let c : any ≡ false = wired_calm p.wired (λ z. rw here (busy_resumed mine.stage (byte k x) ∙ calm)) in
-      let e : record { head = h'; drive = drives mine mine.stage k; act = Nothing } ≡ heard (get_or (set hs talker h) talker blank_head) (Bit b) =
-      rw here (framed_heard h b (sym (frame_own mine k x b low mine.stage past' calm few))) in
-      let m = ran_own p whole bit c back small (rw (length-set hs talker h) room) (record { head = h'; drive = drives mine mine.stage k; act = Nothing }) e refl
-      (past_resumed mine.stage (byte (k + 1) (more_of x b)) ∙ past') (busy_resumed mine.stage (byte (k + 1) (more_of x b)) ∙ calm) in
-      rw (set-set hs talker h h', shows_bit bus (record_size * talker) mine k mine.stage) at m
+      let calm = free_byte mine.stage left in
+      let b = get_or tape (p.at + 2) 0 in
+      let h' = glided mine (longer x b) in
+      let c : any ≡ false = wired_calm q.wired (λ z. rw here (busy_resumed mine.stage x ∙ calm)) in
+      let e : record { head = h'; drive = drives mine mine.stage x.count; act = Nothing } ≡ heard (get_or (set hs talker h) talker blank_head) (Bit b) =
+      rw here (framed_heard h b (sym (frame_own mine x.count x.bits b low mine.stage past' calm left))) in
+      let m = ran_own q whole bit c few (length-set hs talker h ∙ long) small (record { head = h'; drive = drives mine mine.stage x.count; act = Nothing }) e refl
+      (past_resumed mine.stage (longer x b) ∙ past') (busy_resumed mine.stage (longer x b) ∙ calm) in
+      rw (set-set hs talker h h', shows_bit bus (record_size * talker) mine x.count mine.stage) at m
 
-  glide_own : InPlace → talker < n → talker < length hs → {at'' i' k x : ℕ} {answers' : List ℕ}
-      → Frames tape (shown_in bus (record_size * talker) (driven mine mine.stage)) at' i (byte_of mine.stage).count (byte_of mine.stage).bits answers at'' i' k x answers'
-      → Along (set hs talker (glided mine (byte k x))) others at'' i' answers'
-  glide_own back small room none = rw (on_none mine mine.stage refl, set-get_or hs talker blank_head) r
-  glide_own back small room (more f low whole bit) =
-      own_more back small room (omega (arith, frames_count f)) _ _ _ _ _ low whole bit (glide_own back small room f)
+  glide_own : n ≤ 8 → length hs ≡ 8 → talker < n → {p : Progress} {x : Byte} {answers' : List ℕ}
+      → Frames tape (shown_in bus (record_size * talker) (driven mine mine.stage)) p₀ (byte_of mine.stage) answers p x answers'
+      → Along (set hs talker (glided mine x)) others p answers'
+  glide_own few long small none = rw (on_none mine mine.stage refl, set-get_or hs talker blank_head) r
+  glide_own few long small (more f low whole bit) =
+      own_more few long small (omega (arith, frames_count f)) _ _ _ low whole bit (glide_own few long small f)
 
   -- one frame of the byte that all hear
-  apart_more : n ≤ talker → (at'' i' k x : ℕ) (answers' : List ℕ) → k < 8 → at'' + 3 ≤ length tape → get_or tape (at'' + 2) 0 < 2 → Along hs (resumed others (byte k x)) at'' i' answers'
-      → Along hs (resumed others (byte (k + 1) (more_of x (get_or tape (at'' + 2) 0)))) (at'' + 3) (i' + 1) (set answers' i' (pulled (bit_at 255 k) (get_or tape (at'' + 2) 0)))
-  apart_more none' at'' i' k x answers' low whole bit p =
-      let c : any ≡ false = wired_calm p.wired (λ z. absurd (omega arith)) in
-      let a = apart_resumed others k x (get_or tape (at'' + 2) 0) low r.wired.apart in
-      rw (free_bit k) (rw a.1 at (ran_apart p whole bit c none' a.0))
+  apart_more : n ≤ talker → (p : Progress) (x : Byte) (answers' : List ℕ) → x.count < 8 → p.at + 3 ≤ length tape → get_or tape (p.at + 2) 0 < 2 → Along hs (resumed others x) p answers'
+      → Along hs (resumed others (longer x (get_or tape (p.at + 2) 0))) (progress (p.at + 3) (p.answered + 1)) (set answers' p.answered (pulled (bit_at 255 x.count) (get_or tape (p.at + 2) 0)))
+  apart_more none' p x answers' low whole bit q =
+      let c : any ≡ false = wired_calm q.wired (λ z. absurd (omega arith)) in
+      let a = apart_resumed others x.count x.bits (get_or tape (p.at + 2) 0) low r.wired.apart in
+      rw (free_bit x.count) (rw a.1 at (ran_apart q whole bit c none' a.0))
 
-  glide_apart : n ≤ talker → {at'' i' k x : ℕ} {answers' : List ℕ} → Frames tape 255 at' i (byte_of others).count (byte_of others).bits answers at'' i' k x answers'
-      → Along hs (resumed others (byte k x)) at'' i' answers'
+  glide_apart : n ≤ talker → {p : Progress} {x : Byte} {answers' : List ℕ} → Frames tape 255 p₀ (byte_of others) answers p x answers'
+      → Along hs (resumed others x) p answers'
   glide_apart none' none = rw (resumed_none others) r
-  glide_apart none' (more f low whole bit) = apart_more none' _ _ _ _ _ low whole bit (glide_apart none' f)
+  glide_apart none' (more f low whole bit) = apart_more none' _ _ _ low whole bit (glide_apart none' f)
 
-  pub ran_glide : InPlace → n ≤ 8 → length hs ≡ 8 → {others' : Stage} {h' : Head} {at'' i' : ℕ} {answers' : List ℕ}
-      → Glides n bus tape talker at' i others (get_or hs (talker % 8) blank_head) answers others' h' at'' i' answers' → Along (set hs (talker % 8) h') others' at'' i' answers'
-  ran_glide back few long (own small f) =
-      let e : talker % 8 ≡ talker = omega arith in
-      rw e (glide_own back small (omega arith) (rw e at f))
-  ran_glide back few long (apart none' f) = rw (set-get_or hs (talker % 8) blank_head) (glide_apart none' f)
-
-  pub ran_space : (space : ℕ) → length (events_of tape) ≤ space → Room tape at' i space
-  ran_space space h = record { sound = r.sound; left = omega (arith, r.left) }
+  pub ran_glide : n ≤ 8 → length hs ≡ 8 → {p : Progress} {others' : Stage} {hs' : List Head} {answers' : List ℕ}
+      → Glides n bus tape talker p₀ others hs answers p others' hs' answers' → Along hs' others' p answers'
+  ran_glide few long (own small f) = glide_own few long small f
+  ran_glide few long (apart none' f) = glide_apart none' f

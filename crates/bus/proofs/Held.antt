@@ -1,20 +1,21 @@
 -- Heads, pages and the bus file hold a list of devices: what they tell of one of them, and how a turn of one changes them.
-use Prim.Native.Nat.{ℕ, zero, suc, ◌+◌, ◌*◌, ◌%◌, ◌<◌}
+use Rattle.std.specs.Prelude.{None}
+use Prim.Native.Nat.{ℕ, zero, suc, ◌+◌, ◌*◌, ◌%◌, ◌<◌, ◌≤◌}
 use native.Mathlib.Omega.{arith}
 use native.Mathlib.Nat.{not-suc-le-zero, le_of_suc-le-suc}
 use mathlib.Core.Path.{◌≡◌, refl, sym, ap, ◌∙◌}
 use mathlib.Core.List.{List, [], ◌∷◌, ◌++◌, append_assoc, append-nil}
 use lib.ListN.{length, get_or, set, take, drop, length-append, length-set}
-use lib.Seq.{drop-set-lt}
+use lib.Seq.{get_or-set_same, get_or-set_other}
+use mathlib.Core.Logic.{inl, inr}
 use borrow.Rule.Slice.PartMut.{put_mid}
+use Rattle.std.proofs.lemmas.Bool.{cases_eq}
 use Rattle.bits.specs.Bytes.{bit_at}
 use Rattle.chip.specs.declared.Device.{Device}
 use Rattle.chip.specs.declared.Head.{Head}
-use Rattle.bits.specs.declared.Selector.TheVariants.{Unset}
 use Rattle.chip.specs.declared.Speed.TheVariants.{High}
 use Rattle.chip.specs.declared.Stage.TheVariants.{Standby}
 use Rattle.chip.specs.declared.Region.TheVariants.{Main, Security}
-use Rattle.chip.specs.declared.Command.{Command}
 use Rattle.chip.specs.declared.Command.TheVariants.{Page, Lock, Check, Rom, Freeze}
 use Rattle.chip.specs.declared.Drive.{Drive}
 use Rattle.chip.specs.declared.Drive.TheVariants.{Free, Low, CellBit, IdBit}
@@ -32,10 +33,7 @@ use Rattle.image.specs.Layout.{record_size, id_at, flags_at, main_at, main_size,
 use Rattle.image.specs.Image.{record_of, saved_of}
 use Rattle.image.specs.Promises.{Sized}
 use Rattle.image.specs.InPlace.{InPlace}
-use Rattle.bus.specs.Held.{shown_in, level_in, page_in, burnt_in, programmed_in, acted_in, put_in}
-
-abbrev pub page_of : Device → List ℕ
-page_of d = d.page
+use Rattle.bus.specs.Held.{shown_in, level_in, page_in, burnt_in, programmed_in, acted_in, put_to, put_in}
 
 -- what an index past the end of a list of devices reads
 abbrev pub blank : Device
@@ -49,7 +47,7 @@ blank = record {
   user = [];
   pointer = 0;
   speed = High;
-  selector = Unset;
+  selector = None;
   page = [];
   stage = Standby;
 }
@@ -63,9 +61,10 @@ pub data AllFit : List Device → Type 0 where
   none : AllFit []
   more : {d : Device} {ds : List Device} → Fits d → AllFit ds → AllFit (d ∷ ds)
 
-pub record Held (n : ℕ) (ds : List Device) (pages bus : List ℕ) : Type 0 where
+pub record Held (n : ℕ) (ds : List Device) (pages : List (List ℕ)) (bus : List ℕ) : Type 0 where
   pub count : length ds ≡ n
-  pub paged : pages ≡ flat page_of ds ++ drop (8 * n) pages
+  pub room : n ≤ length pages
+  pub paged : (k : ℕ) → k < n → page_in pages k ≡ (get_or ds k blank).page
   pub bytes : bus ≡ flat record_of ds
   pub fit : AllFit ds
 
@@ -79,10 +78,6 @@ pub fit_set : (ds : List Device) (j : ℕ) (e : Device) → Fits e → AllFit ds
 fit_set [] j e x a = none
 fit_set (d ∷ ds) zero e x (more f a) = more x a
 fit_set (d ∷ ds) (suc j) e x (more f a) = more f (fit_set ds j e x a)
-
-page_pieces : (ds : List Device) → AllFit ds → Pieces page_of 8 ds
-page_pieces [] none = Pieces.none
-page_pieces (d ∷ ds) (more f a) = Pieces.more f.page (page_pieces ds a)
 
 record_length : (d : Device) → Sized d → length (record_of d) ≡ record_size
 unfolding record_of
@@ -182,7 +177,7 @@ module _ (ds : List Device) (j : ℕ) (h : j < length ds) (fit : AllFit ds) (bac
       ∙ piece_at ds j blank h fit [] (record_of this) [] 0 record_size refl (record_length this its) (sym (append-nil (record_of this))) i q
 
   pub level_held : (v : Drive) → level_in (flat record_of ds) (record_size * j) v ≡ level_of this v
-  unfolding level_in shown_in level_of
+  unfolding shown_in level_of
   level_held Free = refl
   level_held Low = refl
   level_held (CellBit Main p n) = ap (λ (x : ℕ). bit_at x n) (record_at_lem (main_at + p % 128) (omega arith) ∙ back.main_read this its (p % 128) (omega arith))
@@ -192,22 +187,21 @@ module _ (ds : List Device) (j : ℕ) (h : j < length ds) (fit : AllFit ds) (bac
       (ap (λ (i : ℕ). get_or (flat record_of ds) i 0) (omega arith) ∙ record_at_lem (id_at + k % 3) (omega arith) ∙ back.id_read this its (k % 3) (omega arith))
 
 -- ---- a turn: device j becomes e
-assoc3 : (a b c r : List ℕ) → (a ++ (b ++ c)) ++ r ≡ a ++ (b ++ (c ++ r))
-assoc3 a b c r = simp append_assoc
-
 -- a list whose one element changes in a way that its piece does not see
 flat_same : (f : Device → List ℕ) (ds : List Device) (j : ℕ) (e : Device) → j < length ds → f e ≡ f (get_or ds j blank) → flat f (set ds j e) ≡ flat f ds
 flat_same f ds j e h q = flat_set f ds j e h ∙ rw q (sym (flat_split f ds j blank h))
 
--- what an act leaves of a device: its head, its lengths
-page_acted : (g : Head) (d : Device) (c : Command) (p t m : ℕ) → page_of (acted (joined g d) (Program c p t m)) ≡ page_of d
-unfolding acted
-page_acted g d (Page Main) p t m = refl
-page_acted g d (Page Security) p t m = refl
-page_acted g d Lock p t m = refl
-page_acted g d Check p t m = refl
-page_acted g d Rom p t m = refl
-page_acted g d Freeze p t m = refl
+-- what an act leaves of a device: its page, its lengths
+page_acted : (g : Head) (d : Device) (a : Act) → put_to d.page a ≡ (acted (joined g d) a).page
+unfolding acted put_to
+page_acted g d Nothing = refl
+page_acted g d (Put k x) = refl
+page_acted g d (Program (Page Main) p t m) = refl
+page_acted g d (Program (Page Security) p t m) = refl
+page_acted g d (Program Lock p t m) = refl
+page_acted g d (Program Check p t m) = refl
+page_acted g d (Program Rom p t m) = refl
+page_acted g d (Program Freeze p t m) = refl
 
 fits_acted : (g : Head) (d : Device) (a : Act) → Fits d → Fits (acted (joined g d) a)
 unfolding acted
@@ -281,34 +275,23 @@ module _ (ds : List Device) (j : ℕ) (h : j < length ds) (fit : AllFit ds) (g :
     file_turn (Program Rom q t m) f = flags_put
     file_turn (Program Freeze q t m) f = flags_put
 
-  -- ---- the pages
-  module _ (n : ℕ) (pages : List ℕ) (c : length ds ≡ n) (q : pages ≡ flat page_of ds ++ drop (8 * n) pages) where
-    pages_apart : pages ≡ flat page_of (take j ds) ++ (that.page ++ (flat page_of (drop (suc j) ds) ++ drop (8 * n) pages))
-    pages_apart =
-        q ∙ ap (λ (l : List ℕ). l ++ drop (8 * n) pages) (flat_split page_of ds j blank h)
-        ∙ assoc3 (flat page_of (take j ds)) that.page (flat page_of (drop (suc j) ds)) (drop (8 * n) pages)
+-- ---- the pages: device j becomes e
+module _ (ds : List Device) (j k : ℕ) (e : Device) (h : j < length ds) where
+  page_set : (pages : List (List ℕ)) (page : List ℕ) → j < length pages → page ≡ e.page → page_in pages k ≡ (get_or ds k blank).page
+      → page_in (set pages j page) k ≡ (get_or (set ds j e) k blank).page
+  page_set pages page l q p = elim (cases_eq k j) [
+    | inl z ↦ rw (z, get_or-set_same pages j page [] l, get_or-set_same ds j e blank h) q
+    | inr z ↦ rw (get_or-set_other pages j k page [] z, get_or-set_other ds j k e blank z) p
+  ]
 
-    pub page_held : page_in pages j ≡ that.page
-    page_held =
-        ap (λ (l : List ℕ). take 8 (drop (8 * j) l)) pages_apart
-        ∙ part_is (flat page_of (take j ds)) that.page _ (8 * j) 8 (before page_of 8 ds j h (page_pieces ds fit)) (fit_at ds j blank h fit).page
-
-    pages_turn : (a : Act) → put_in pages j a ≡ flat page_of (set ds j (acted (joined g that) a)) ++ drop (8 * n) (put_in pages j a)
-    unfolding put_in acted
-    pages_turn Nothing = q ∙ ap (λ (l : List ℕ). l ++ drop (8 * n) pages) (sym (flat_same page_of ds j (joined g that) h refl))
-    pages_turn (Put k x) =
-        let i = 8 * j + k % 8 in
-        let e = acted (joined g that) (Put k x) in
-        let rest = drop (8 * n) pages in
-        ap (λ (l : List ℕ). set l i x) pages_apart
-        ∙ part_set (flat page_of (take j ds)) that.page _ (8 * j) 8 (before page_of 8 ds j h (page_pieces ds fit)) (fit_at ds j blank h fit).page (k % 8) x (omega arith)
-        ∙ sym (assoc3 (flat page_of (take j ds)) e.page (flat page_of (drop (suc j) ds)) rest)
-        ∙ ap (λ (l : List ℕ). l ++ rest) (sym (flat_set page_of ds j e h))
-        ∙ ap (λ (l : List ℕ). flat page_of (set ds j e) ++ l) (sym (drop-set-lt (8 * n) pages i x (omega arith)))
-    pages_turn (Program r p t m) = q ∙ ap (λ (l : List ℕ). l ++ drop (8 * n) pages) (sym (flat_same page_of ds j _ h (page_acted g that r p t m)))
+  page_same : e.page ≡ (get_or ds j blank).page → (get_or ds k blank).page ≡ (get_or (set ds j e) k blank).page
+  page_same q = elim (cases_eq k j) [
+    | inl z ↦ rw (z, get_or-set_same ds j e blank h) (sym q)
+    | inr z ↦ rw (get_or-set_other ds j k e blank z) refl
+  ]
 
 -- device j takes an event
-module _ (n : ℕ) (ds : List Device) (pages bus : List ℕ) (held : Held n ds pages bus) (j : ℕ) (small : j < n) where
+module _ (n : ℕ) (ds : List Device) (pages : List (List ℕ)) (bus : List ℕ) (held : Held n ds pages bus) (j : ℕ) (small : j < n) where
   abbrev now : Device
   now = get_or ds j blank
 
@@ -324,12 +307,15 @@ module _ (n : ℕ) (ds : List Device) (pages bus : List ℕ) (held : Held n ds p
   unfolding take_of
   turn ev =
       let f = heard (head_of now) ev in
-      let k = keeps (head_of now) ev in
+      let x = keeps (head_of now) ev in
       record {
         count = length-set ds j (take_of now ev).device ∙ held.count;
-        paged = pages_turn ds j within held.fit f.head n pages held.count held.paged f.act;
-        bytes = rw (page_held ds j within held.fit f.head n pages held.count held.paged, held.bytes)
-            (file_turn ds j within held.fit f.head k.part k.slave f.act k.flags);
+        room = rw (length-set pages j) held.room;
+        paged = λ k h.
+            let own : put_to (page_in pages j) f.act ≡ (take_of now ev).device.page = rw (held.paged j small) (page_acted f.head now f.act) in
+            page_set ds j k (take_of now ev).device within pages _ (omega (arith, held.room)) own (held.paged k h);
+        bytes = rw (held.paged j small, held.bytes)
+            (file_turn ds j within held.fit f.head x.part x.slave f.act x.flags);
         fit = fit_set ds j (take_of now ev).device (fits_acted f.head now f.act (fit_at ds j blank within held.fit)) held.fit;
       }
 
@@ -339,7 +325,8 @@ module _ (n : ℕ) (ds : List Device) (pages bus : List ℕ) (held : Held n ds p
       let ok = fit_at ds j blank within held.fit in
       record {
         count = length-set ds j (joined g now) ∙ held.count;
-        paged = rw (flat_same page_of ds j (joined g now) within refl) held.paged;
+        room = held.room;
+        paged = λ k h. held.paged k h ∙ page_same ds j k (joined g now) within refl;
         bytes = held.bytes ∙ sym (record_same ds j within held.fit g p s f);
         fit = fit_set ds j (joined g now) (record { sized = record { id = ok.sized.id; main = ok.sized.main; serial = ok.sized.serial; user = ok.sized.user }; page = ok.page }) held.fit;
       }

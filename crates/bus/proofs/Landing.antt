@@ -1,4 +1,5 @@
 -- Which devices an event does more to than to move them from the one stage that they share to the next, and where those that it does more to end.
+use Rattle.std.specs.Prelude.{Option, Some, None}
 use Prim.Native.Nat.{ℕ, ◌+◌, ◌%◌}
 use mathlib.Core.Path.{◌≡◌, refl, sym, ap, ◌∙◌}
 use mathlib.Core.Bool.{Bool, true, false}
@@ -19,7 +20,6 @@ use Rattle.chip.specs.declared.Stage.TheVariants.{Standby, Address, Place, Data,
 use Rattle.chip.specs.declared.Opcode.{Opcode}
 use Rattle.chip.specs.declared.Opcode.TheVariants.{Access, LockRegister, ZoneRegister, FreezeZones, ManufacturerId, StandardSpeed, HighSpeed, Unknown}
 use Rattle.chip.specs.declared.Cycle.{Cycle}
-use Rattle.chip.specs.declared.Cycle.TheVariants.{Idle, Of}
 use Rattle.chip.specs.declared.Event.{Event}
 use Rattle.chip.specs.declared.Event.TheVariants.{Bit, Null, Wait, Reset, Cut}
 use Rattle.chip.specs.Head.{at, silent}
@@ -168,27 +168,27 @@ land_bit h (Sending s n) b p q =
     choice Land (ltb n 7) (on _ refl) (choice Land (eqb n 7) (on _ refl) (choice Land (eqb (b % 2) 0) (land_next s) off))
 land_bit h (Programming c t) b p q = no q
 
-land_due : (h : Head) (d : Cycle) → Lands (null_of h Idle d).stage (Address 0 0)
-land_due h Idle = record { settles = λ f. refl; alone = λ f g. no (sym f) }
-land_due h (Of c t) = record { settles = λ f. no f; alone = λ f g. no g }
+land_due : (h : Head) (d : Option Cycle) → Lands (null_of h None d).stage (Address 0 0)
+land_due h None = record { settles = λ f. refl; alone = λ f g. no (sym f) }
+land_due h (Some r) = record { settles = λ f. no f; alone = λ f g. no g }
 
 pub land_null : (h : Head) (s : Stage) → h.stage ≡ s → Lands (null_of h (running s) (due s)).stage (Address 0 0)
-land_null h Standby e = land_due h Idle
-land_null h (Address n x) e = land_due h Idle
-land_null h (Place c n x) e = land_due h Idle
+land_null h Standby e = land_due h None
+land_null h (Address n x) e = land_due h None
+land_null h (Place c n x) e = land_due h None
 land_null h (Data c t n x) e = land_due h (due (Data c t n x))
-land_null h (Sending s n) e = land_due h Idle
+land_null h (Sending s n) e = land_due h None
 land_null h (Programming c t) e = rw e (record { settles = λ f. no f; alone = λ f g. no g })
 
-land_finished : (h : Head) (r : Cycle) → (r ≡ Idle → h.stage ≡ Address 0 0) → (finished h r).head.stage ≡ Address 0 0
-land_finished h Idle e = e refl
-land_finished h (Of c t) e = refl
+land_finished : (h : Head) (r : Option Cycle) → (r ≡ None → h.stage ≡ Address 0 0) → (finished h r).head.stage ≡ Address 0 0
+land_finished h None e = e refl
+land_finished h (Some r) e = refl
 
 -- a Null leaves a device free only where it waits for its device address
-free_null : (h : Head) (s : Stage) → h.stage ≡ s → running (null_of h (running s) (due s)).stage ≡ Idle → (null_of h (running s) (due s)).stage ≡ Address 0 0
+free_null : (h : Head) (s : Stage) → h.stage ≡ s → running (null_of h (running s) (due s)).stage ≡ None → (null_of h (running s) (due s)).stage ≡ Address 0 0
 free_null h s e f = (land_null h s e).settles (freed (null_of h (running s) (due s)).stage f (land_null h s e))
   where
-    freed : (q : Stage) → running q ≡ Idle → Lands q (Address 0 0) → past q ≡ false
+    freed : (q : Stage) → running q ≡ None → Lands q (Address 0 0) → past q ≡ false
     freed Standby f l = refl
     freed (Address n x) f l = refl
     freed (Place c n x) f l = apart_stages (l.alone refl refl)
@@ -204,7 +204,7 @@ Free Wait s = Unit {0}
 Free Reset s = busy s ≡ false
 Free (Cut m) s = Unit {0}
 
-idle : (s : Stage) → busy s ≡ false → running s ≡ Idle
+idle : (s : Stage) → busy s ≡ false → running s ≡ None
 idle Standby e = refl
 idle (Address n x) e = refl
 idle (Place c n x) e = refl
@@ -225,9 +225,9 @@ bit_others (Data c t n x) b e = no (sym e)
 bit_others (Sending k n) b e = no (sym e)
 bit_others (Programming c t) b e = no (sym e)
 
-cut_rests : (h : Head) (m : ℕ) (r : Cycle) → (cut_of h r m).head.stage ≡ Standby
-cut_rests h m Idle = refl
-cut_rests h m (Of c t) = refl
+cut_rests : (h : Head) (m : ℕ) (r : Option Cycle) → (cut_of h r m).head.stage ≡ Standby
+cut_rests h m None = refl
+cut_rests h m (Some r) = refl
 
 -- a reset, by itself or after a Cut, leaves a device in standby
 pub data Resets : Event → Type 0 where
@@ -250,7 +250,7 @@ lands h Null s o e f q = rw (ap (λ (t : Stage). null_of h (running t) (due t)) 
 lands h Wait s o e f q =
     let n : nulled h ≡ null_of h (running s) (due s) = ap (λ (t : Stage). null_of h (running t) (due t)) e in
     let w : (finished (nulled h) (running (nulled h).stage)).head.stage ≡ Address 0 0 = land_finished (nulled h) (running (nulled h).stage) (λ i. rw n (free_null h s e (rw n at i))) in
-    rw w (land_due h Idle)
+    rw w (land_due h None)
 lands h Reset s o e f q = rw (ap running e ∙ idle s f) off
 lands h (Cut m) s o e f q = rw (cut_rests h m (running h.stage)) off
 

@@ -10,6 +10,7 @@ use borrow.Author.Tests.{ltb-true, ltb-false}
 use lib.Dec.{ltb}
 use lib.ListN.{length, get_or, set}
 use lib.Seq.{take_all}
+use Rattle.std.specs.Prelude.{Option, Some, None}
 use Rattle.bits.specs.Words.{pick}
 use Rattle.chip.specs.declared.Device.{Device}
 use Rattle.chip.specs.declared.Head.{Head}
@@ -24,13 +25,13 @@ use Rattle.chip.proofs.KeptLaws.{slave_after}
 use Rattle.wire.specs.Wire.{busy, any_busy, barred, table_of, pulled}
 use Rattle.image.specs.Layout.{record_size}
 use Rattle.image.specs.InPlace.{InPlace}
-use Rattle.bus.specs.declared.Span.{Span}
-use Rattle.bus.specs.Held.{blank_head, standing, others_after, past, ninth_due, called, span, one_of, span_in, level_in, page_in, acted_in, put_in}
+use Rattle.std.specs.declared.ops.Range.{Range}
+use Rattle.bus.specs.Held.{number, blank_head, standing, others_after, past, ninth_due, called, span, one_of, span_in, level_in, page_in, acted_in, put_in}
 use Rattle.bus.proofs.Held.{Held, blank}
 use Rattle.bus.proofs.Landing.{Apart, Quiet, Passing, a_bit, a_null, a_wait, a_reset, a_cut, reset_rests, Lands, lands, bit_others, apart_after, no}
 use Rattle.bus.proofs.Passing.{Passed, still, passed_none, passed_aside, passed_turn, passed_table, standing_other, standing_own}
 
-pub record Wired (n : ℕ) (ds : List Device) (who : List ℕ) (talker : ℕ) (others : Stage) (any : Bool) (hs : List Head) (pages bus : List ℕ) : Type 0 where
+pub record Wired (n : ℕ) (ds : List Device) (who : List (Option ℕ)) (talker : ℕ) (others : Stage) (any : Bool) (hs : List Head) (pages : List (List ℕ)) (bus : List ℕ) : Type 0 where
   pub held : Held n ds pages bus
   pub heads : (k : ℕ) → k < n → head_of (get_or ds k blank) ≡ standing talker others k (get_or hs k blank_head)
   pub apart : Apart others
@@ -38,7 +39,7 @@ pub record Wired (n : ℕ) (ds : List Device) (who : List ℕ) (talker : ℕ) (o
   pub alone : talker < n → busy (get_or hs talker blank_head).stage ≡ false → others ≡ Standby
   pub programs : any ≡ any_busy ds
   -- where each slave address stands
-  pub named : (k : ℕ) → k < n → get_or who (get_or ds k blank).slave 0 ≡ k
+  pub named : (k : ℕ) → k < n → get_or who (get_or ds k blank).slave None ≡ Some k
 
 none_busy : (ds : List Device) (k : ℕ) → k < length ds → any_busy ds ≡ false → busy (get_or ds k blank).stage ≡ false
 unfolding any_busy
@@ -60,7 +61,7 @@ table_at ev [] k h = absurd (not-suc-le-zero h)
 table_at ev (d ∷ ds) zero h = refl
 table_at ev (d ∷ ds) (suc k) h = table_at ev ds k (le_of_suc-le-suc h)
 
-module _ {n : ℕ} {ds : List Device} {who : List ℕ} {talker : ℕ} {others : Stage} {any : Bool} {hs : List Head} {pages bus : List ℕ} (w : Wired n ds who talker others any hs pages bus) where
+module _ {n : ℕ} {ds : List Device} {who : List (Option ℕ)} {talker : ℕ} {others : Stage} {any : Bool} {hs : List Head} {pages : List (List ℕ)} {bus : List ℕ} (w : Wired n ds who talker others any hs pages bus) where
   abbrev seen_at : ℕ → Head
   seen_at j = standing talker others j (get_or hs j blank_head)
 
@@ -78,13 +79,13 @@ module _ {n : ℕ} {ds : List Device} {who : List ℕ} {talker : ℕ} {others : 
   nobody e d h = no (sym (rw (talks_alone e h) at d))
 
   abbrev called_at : ℕ
-  called_at = get_or who (called others) 0
+  called_at = number (get_or who (called others) None)
 
   -- ---- a device outside the span
-  outside_one : (t : ℕ) (i : ℕ) → i < n → (i < (one_of t n).from) ⊎ ((one_of t n).to ≤ i) → i ≡ t → ⊥
+  outside_one : (t : ℕ) (i : ℕ) → i < n → (i < (one_of t n).start) ⊎ ((one_of t n).end ≤ i) → i ≡ t → ⊥
   outside_one t i h o e = go (ltb t n) refl o
     where
-      go : (b : Bool) → ltb t n ≡ b → (i < (pick b (span t (t + 1)) (span 0 0)).from) ⊎ ((pick b (span t (t + 1)) (span 0 0)).to ≤ i) → ⊥
+      go : (b : Bool) → ltb t n ≡ b → (i < (pick b (span t (t + 1)) (span 0 0)).start) ⊎ ((pick b (span t (t + 1)) (span 0 0)).end ≤ i) → ⊥
       go true f (inl q) = omega arith
       go true f (inr q) = omega arith
       go false f q = let z = ltb-false t n f in omega arith
@@ -94,14 +95,14 @@ module _ {n : ℕ} {ds : List Device} {who : List ℕ} {talker : ℕ} {others : 
     pub other : i ≡ talker → ⊥
     pub quiet : Quiet ev others (get_or ds i blank).slave
 
-  abbrev Outside : Span → ℕ → Type 0
-  Outside s i = (i < s.from) ⊎ (s.to ≤ i)
+  abbrev Outside : Range ℕ → ℕ → Type 0
+  Outside s i = (i < s.start) ⊎ (s.end ≤ i)
 
   out_bit : any ≡ false → (b i : ℕ) → i < n → (t : Bool) → ninth_due others ≡ t → Outside (pick t (one_of called_at n) (one_of talker n)) i → Out (Bit b) i
   out_bit e b i h true d o = record {
     passing = a_bit;
     other = λ q. nobody e d (omega arith);
-    quiet = λ f c. outside_one called_at i h o (sym (w.named i h) ∙ ap (λ (s : ℕ). get_or who s 0) (sym c));
+    quiet = λ f c. outside_one called_at i h o (sym (ap number (w.named i h)) ∙ ap (λ (s : ℕ). number (get_or who s None)) (sym c));
   }
   out_bit e b i h false d o = record { passing = a_bit; other = outside_one talker i h o; quiet = λ f c. no (sym f ∙ d) }
 
@@ -115,21 +116,21 @@ module _ {n : ℕ} {ds : List Device} {who : List ℕ} {talker : ℕ} {others : 
   out (Cut m) e i h (inr q) = absurd (omega arith)
 
   -- ---- a device inside it
-  abbrev Inside : Span → ℕ → Type 0
-  Inside s j = (s.from ≤ j) × (j < s.to)
+  abbrev Inside : Range ℕ → ℕ → Type 0
+  Inside s j = (s.start ≤ j) × (j < s.end)
 
-  inside_one : (t j : ℕ) → Inside (one_of t n) j → (j ≡ t) × ((one_of t n).to ≡ (one_of t n).from + 1)
+  inside_one : (t j : ℕ) → Inside (one_of t n) j → (j ≡ t) × ((one_of t n).end ≡ (one_of t n).start + 1)
   inside_one t j i = go (ltb t n) i
     where
       go : (b : Bool) → Inside (pick b (span t (t + 1)) (span 0 0)) j
-          → (j ≡ t) × ((pick b (span t (t + 1)) (span 0 0)).to ≡ (pick b (span t (t + 1)) (span 0 0)).from + 1)
+          → (j ≡ t) × ((pick b (span t (t + 1)) (span 0 0)).end ≡ (pick b (span t (t + 1)) (span 0 0)).start + 1)
       go true q = (omega (arith, q.0, q.1), refl)
       go false q = absurd (not-suc-le-zero q.1)
 
   -- it lands, and it is the only one or ends in standby
-  pub record In (ev : Event) (s : Span) (j : ℕ) : Type 0 where
+  pub record In (ev : Event) (s : Range ℕ) (j : ℕ) : Type 0 where
     pub lands : Lands (heard (seen_at j) ev).head.stage (others_after ev others)
-    pub single : (s.to ≡ s.from + 1) ⊎ ((heard (seen_at j) ev).head.stage ≡ Standby)
+    pub single : (s.end ≡ s.start + 1) ⊎ ((heard (seen_at j) ev).head.stage ≡ Standby)
 
   in_bit : any ≡ false → (b j : ℕ) → j < n → (t : Bool) → ninth_due others ≡ t → Inside (pick t (one_of called_at n) (one_of talker n)) j → In (Bit b) (pick t (one_of called_at n) (one_of talker n)) j
   in_bit e b j h true d i =
@@ -156,14 +157,14 @@ module _ {n : ℕ} {ds : List Device} {who : List ℕ} {talker : ℕ} {others : 
 
   -- ---- the whole event
   module _ (ev : Event) (w₀ : ℕ) (free : barred ev any ≡ false) where
-    abbrev Along : ℕ → List Head → List ℕ → List ℕ → ℕ → ℕ → Bool → Type 0
+    abbrev Along : ℕ → List Head → List (List ℕ) → List ℕ → ℕ → ℕ → Bool → Type 0
     Along j hs' pages' bus' low next b = Passed n ev ds talker others w₀ j hs' pages' bus' low next b
 
     ld : length ds ≡ n
     ld = w.held.count
 
     -- past devices outside the span, from j to j + m
-    pub along : (m : ℕ) {j : ℕ} {hs' : List Head} {pages' bus' : List ℕ} {low next : ℕ} {b : Bool} → Along j hs' pages' bus' low next b → j + m ≤ n
+    pub along : (m : ℕ) {j : ℕ} {hs' : List Head} {pages' : List (List ℕ)} {bus' : List ℕ} {low next : ℕ} {b : Bool} → Along j hs' pages' bus' low next b → j + m ≤ n
         → ((i : ℕ) → j ≤ i → i < j + m → Outside (span_in ev others talker called_at n) i) → Along (j + m) hs' pages' bus' low next b
     along zero {j} {hs'} {pages'} {bus'} {low} {next} {b} p h o = subst (λ (k : ℕ). Along k hs' pages' bus' low next b) (omega arith) p
     along (suc m) {j} {hs'} {pages'} {bus'} {low} {next} {b} p h o =
@@ -173,7 +174,7 @@ module _ {n : ℕ} {ds : List Device} {who : List ℕ} {talker : ℕ} {others : 
         subst (λ (k : ℕ). Along k hs' pages' bus' low next b) (omega arith) (along m p' (omega arith) (λ i a c. o i (omega arith) (omega arith)))
 
     -- and so it ends
-    pub arrived : {hs' : List Head} {pages' bus' : List ℕ} {low next : ℕ} {b : Bool} → Along n hs' pages' bus' low next b
+    pub arrived : {hs' : List Head} {pages' : List (List ℕ)} {bus' : List ℕ} {low next : ℕ} {b : Bool} → Along n hs' pages' bus' low next b
         → Wired n (table_of ds ev) who next (others_after ev others) b hs' pages' bus'
     arrived {hs'} {pages'} {bus'} {low} {next} {b} p =
         let t = passed_table ld p in
@@ -188,21 +189,21 @@ module _ {n : ℕ} {ds : List Device} {who : List ℕ} {talker : ℕ} {others : 
         }
 
     -- ---- up to the span, through it, and on from it
-    pub begun : (next : ℕ) → n ≤ next → (span_in ev others talker called_at n).from ≤ n
-        → Along (span_in ev others talker called_at n).from hs pages bus w₀ next false
+    pub begun : (next : ℕ) → n ≤ next → (span_in ev others talker called_at n).start ≤ n
+        → Along (span_in ev others talker called_at n).start hs pages bus w₀ next false
     begun next none' h =
-        let lo = (span_in ev others talker called_at n).from in
+        let lo = (span_in ev others talker called_at n).start in
         subst (λ (k : ℕ). Along k hs pages bus w₀ next false) (omega arith)
         (along lo (passed_none ld hs pages bus next w.held w.heads none') (omega arith) (λ i a c. inl (omega arith)))
 
-    pub ended : {hs' : List Head} {pages' bus' : List ℕ} {low next : ℕ} {b : Bool} (j : ℕ) → (span_in ev others talker called_at n).to ≤ j → j ≤ n → Along j hs' pages' bus' low next b
+    pub ended : {hs' : List Head} {pages' : List (List ℕ)} {bus' : List ℕ} {low next : ℕ} {b : Bool} (j : ℕ) → (span_in ev others talker called_at n).end ≤ j → j ≤ n → Along j hs' pages' bus' low next b
         → Along n hs' pages' bus' low next b
     ended {hs'} {pages'} {bus'} {low} {next} {b} j h m p =
         subst (λ (k : ℕ). Along k hs' pages' bus' low next b) (omega arith) (along (n - j) p (omega arith) (λ i a c. inr (omega arith)))
 
     -- a turn inside the span, which is one device long or leaves it in standby
-    pub turned : (back : InPlace) {hs' : List Head} {pages' bus' : List ℕ} {low next : ℕ} {b : Bool} (j : ℕ) → j < n → j < length hs' → Inside (span_in ev others talker called_at n) j
-        → (next < n → (span_in ev others talker called_at n).from < j) → Along j hs' pages' bus' low next b
+    pub turned : (back : InPlace) {hs' : List Head} {pages' : List (List ℕ)} {bus' : List ℕ} {low next : ℕ} {b : Bool} (j : ℕ) → j < n → j < length hs' → Inside (span_in ev others talker called_at n) j
+        → (next < n → (span_in ev others talker called_at n).start < j) → Along j hs' pages' bus' low next b
         → Along (j + 1) (set hs' j (heard (standing talker others j (get_or hs' j blank_head)) ev).head) (put_in pages' j (heard (standing talker others j (get_or hs' j blank_head)) ev).act)
         (acted_in bus' (record_size * j) (heard (standing talker others j (get_or hs' j blank_head)) ev).head.flags (page_in pages' j) (heard (standing talker others j (get_or hs' j blank_head)) ev).act)
         (pulled (level_in bus' (record_size * j) (heard (standing talker others j (get_or hs' j blank_head)) ev).drive) low)
@@ -213,14 +214,14 @@ module _ {n : ℕ} {ds : List Device} {who : List ℕ} {talker : ℕ} {others : 
         let q = inside ev free j h i in
         passed_turn ld h p back room (rw s q.lands) (λ e. silent_so_far q.single (rw s at e) (ltb next n) refl)
       where
-        silent_so_far : ((span_in ev others talker called_at n).to ≡ (span_in ev others talker called_at n).from + 1) ⊎ ((heard (seen_at j) ev).head.stage ≡ Standby)
+        silent_so_far : ((span_in ev others talker called_at n).end ≡ (span_in ev others talker called_at n).start + 1) ⊎ ((heard (seen_at j) ev).head.stage ≡ Standby)
             → past (heard (seen_at j) ev).head.stage ≡ true → (t : Bool) → ltb next n ≡ t → n ≤ next
         silent_so_far o e false f = ltb-false next n f
         silent_so_far (inl o) e true f = let q = early (ltb-true next n f) in absurd (omega (arith, i.0, i.1))
         silent_so_far (inr o) e true f = no (sym e ∙ ap past o)
 
-abbrev fits : ℕ → Span → Type 0
-fits n s = (s.from ≤ s.to) × (s.to ≤ n)
+abbrev fits : ℕ → Range ℕ → Type 0
+fits n s = (s.start ≤ s.end) × (s.end ≤ n)
 
 one_fits : (t n : ℕ) → fits n (one_of t n)
 one_fits t n = go (ltb t n) refl

@@ -1,73 +1,82 @@
 // A run keeps the devices' heads in an array and their gathered pages in another; their other bytes stay in the bus file, where the end of a cycle changes them.
-ghost use Rattle.std.specs.Prelude.{◌≡◌, map, ◌≤◌, length, take};
+ghost use Rattle.std.specs.Prelude.{◌≡◌, map, ◌*◌, ◌≤◌, length, take};
 ghost use Rattle.std.proofs.lemmas.List.Edits.{sets};
 ghost use Rattle.bits.specs.Words.{pick};
+ghost use Rattle.faults.specs.Faults.{number_in};
 ghost use Rattle.chip.specs.Take.{head_of};
 ghost use Rattle.wire.specs.Wire.{last_of, answers_of, refused_of};
 ghost use Rattle.tape.specs.Tape.{tape_fault, events_of};
+ghost use Rattle.image.specs.Layout.{record_size};
 ghost use Rattle.image.specs.Scan.{bus_fault};
 ghost use Rattle.image.specs.Image.{devices_of, saved_of};
-ghost use Rattle.bus.specs.Held.{NamedIn};
+ghost use Rattle.bus.specs.Held.{number, NamedIn, Played};
 
-use crate::{act, glide, talk};
-use chip::{Device, Head, Stage};
+use crate::talk::Talk;
+use crate::{Progress, act, glide, talk};
+use chip::{Device, Event, Head};
 use image::RECORD_SIZE;
-
-// The number of no device.
-const NOBODY: usize = 8;
+use std::ops::Range;
 
 fn heads_of(devices: [Device; 8]) -> [Head; 8]
     ensures { result ≡ map head_of devices }
 {
-    let d = devices[0];
-    let first = d.head();
-    let mut heads = [first; 8];
-    let mut j: usize = 0;
-    while j < 8 {
-        let e = devices[j];
-        let h = e.head();
-        heads[j] = h;
-        j += 1;
-    }
-    heads
+    devices.map(|device| device.head())
 }
 
 // Where the device with each slave address stands.
-fn places_of(heads: [Head; 8], count: usize) -> [usize; 8]
-    requires { count ≤ 8 }
-    ensures { NamedIn heads count result }
+fn places_of(heads: &[Head]) -> [Option<usize>; 8]
+    ensures { NamedIn heads.now result }
 {
-    let mut who = [NOBODY; 8];
-    let mut j: usize = 0;
-    while j < count {
-        let h = heads[j];
-        let k = (h.slave % 8) as usize;
-        who[k] = j;
-        j += 1;
+    let mut who = [None; 8];
+    for (j, head) in heads.iter().enumerate() {
+        who[(head.slave % 8) as usize] = Some(j);
     }
     who
 }
 
-// What was, where an event is not carried out; else what is now.
-fn kept(barred: bool, was: usize, is: usize) -> usize
-    ensures { result ≡ pick barred was is }
-{
-    if barred {
-        return was;
-    }
-    is
+// What an event that was played gives: the wire's level, who talks then, and whether a device programs.
+#[derive(Clone, Copy)]
+struct Heard {
+    level: u8,
+    talker: Option<usize>,
+    busy: bool,
 }
 
-fn still(barred: bool, was: bool, is: bool) -> bool
-    ensures { result ≡ pick barred was is }
+// An event played on the devices of a span. Without the hint LLVM makes worse code of the loop, and a run is a tenth slower.
+#[inline(always)]
+fn hear(
+    bus: &mut [u8],
+    heads: &mut [Head; 8],
+    pages: &mut [[u8; 8]; 8],
+    ev: Event,
+    span: Range<usize>,
+    talk: Talk,
+) -> Heard
+    requires { (span.start ≤ span.end) × (span.end ≤ 8) × (record_size * span.end ≤ length bus.old) }
+    ensures { Played ev (number talk.talker) talk.others span.start heads.old pages.old bus.old span.end heads.new pages.new bus.new result.level (number result.talker) result.busy }
 {
-    if barred {
-        return was;
+    let mut level = wire::masters_level(ev);
+    let mut talker = None;
+    let mut busy = false;
+    for j in span.start..span.end {
+        let from = j * RECORD_SIZE;
+        let framed = talk.standing(heads[j], j).hears(ev);
+        let head = framed.head;
+        let shown = act::shown(bus, from, framed.drive);
+        level = wire::pulled(act::level(framed.drive, shown), level);
+        act::act(bus, from, &mut pages[j], head.flags, framed.act);
+        heads[j] = head;
+        talker = talk::talks(talker, j, head.stage);
+        busy |= wire::busy(head.stage);
     }
-    is
+    Heard {
+        level,
+        talker,
+        busy,
+    }
 }
 
-// All events, over the loaded devices of a clean file and a clean tape, with room for the answers; how many were not carried out.
+// All events, over the loaded devices of a clean file and a clean tape, with room for the answers; how many were not carried out. Events differ in length and a turn plays more than one, so no `for` goes over them.
 pub fn play(
     devices: [Device; 8],
     count: usize,
@@ -75,65 +84,35 @@ pub fn play(
     tape: &[u8],
     answers: &mut [u8],
 ) -> usize
-    requires { ((bus_fault bus.old).number ≡ 0) × (take count devices ≡ devices_of bus.old) × ((tape_fault tape.now).number ≡ 0) × (length (events_of tape.now) ≤ length answers.old) × (count ≤ 8) }
+    requires { (number_in (bus_fault bus.old) ≡ 0) × (take count devices ≡ devices_of bus.old) × (number_in (tape_fault tape.now) ≡ 0) × (length (events_of tape.now) ≤ length answers.old) × (count ≤ 8) }
     ensures value { result ≡ refused_of (devices_of bus.old) (events_of tape.now) }
     ensures bus_after { bus.new ≡ saved_of (last_of (devices_of bus.old) (events_of tape.now)) }
     ensures answers_after { answers.new ≡ sets answers.old 0 (answers_of (devices_of bus.old) (events_of tape.now)) }
 {
     let mut heads = heads_of(devices);
-    let who = places_of(heads, count);
-    let mut pages = [0u8; 64];
-    let mut others = Stage::Standby;
-    let mut talker: usize = NOBODY;
+    let who = places_of(&heads[..count]);
+    let mut pages = [[0u8; 8]; 8];
+    let mut talk = talk::NOBODY;
     let mut any = false;
     let mut refused: usize = 0;
-    let mut at: usize = 0;
-    let mut i: usize = 0;
-    while at < tape.len() {
-        let read = tape::event_at(tape, at);
+    let mut progress = Progress { at: 0, answered: 0 };
+    while progress.at < tape.len() {
+        let read = tape::event_at(tape, progress.at);
         let ev = read.event;
         let barred = wire::barred(ev, any);
-        let call = talk::called(others);
-        let named = who[call];
-        let heard = talk::span_of(ev, barred, others, talker, named, count);
-        let to = heard.to;
-        let mut j = heard.from;
-        let mut from = j * RECORD_SIZE;
-        let mut low = wire::masters_level(ev);
-        let mut next: usize = NOBODY;
-        let mut busy = false;
-        while j < to {
-            let h = heads[j];
-            let f = talk::standing(h, j, talker, others).hears(ev);
-            let g = f.head;
-            let v = f.drive;
-            let a = f.act;
-            let s = g.stage;
-            low = wire::pulled(act::level(bus, from, v), low);
-            act::act(bus, from, &pages, j, g.flags, a);
-            act::put(&mut pages, j, a);
-            heads[j] = g;
-            next = talk::talks(next, j, s);
-            busy = wire::either(busy, wire::busy(s));
-            from += RECORD_SIZE;
-            j += 1;
+        let named = who[talk::called(talk.others)];
+        let span = talk.span_of(ev, barred, named, count);
+        let heard = hear(bus, &mut heads, &mut pages, ev, span, talk);
+        if !barred {
+            talk.talker = heard.talker;
+            talk.others = talk::others_after(ev, talk.others);
+            any = heard.busy;
         }
-        others = talk::others_after(barred, ev, others);
-        talker = kept(barred, talker, next);
-        any = still(barred, any, busy);
-        answers[i] = wire::answer(barred, ev, low);
+        answers[progress.answered] = wire::answer(barred, ev, heard.level);
         refused += wire::counted(barred);
-        at += read.size;
-        i += 1;
-        // The frames behind it that only move a byte on. Where nobody talks, the head that is passed comes back as it is.
-        let k = talker % 8;
-        let own = heads[k];
-        let e = glide::glide(count, bus, tape, talker, at, i, others, own, answers);
-        let own = e.head;
-        heads[k] = own;
-        others = e.others;
-        at = e.at;
-        i = e.i;
+        progress.at += read.size;
+        progress.answered += 1;
+        progress = glide::glide(count, bus, tape, progress, &mut talk, &mut heads, answers);
     }
     refused
 }

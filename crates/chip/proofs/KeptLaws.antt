@@ -1,6 +1,6 @@
 -- No event changes part or slave address, and only the end of a one-way command's cycle changes the flags: by cases, as the definitions go.
 use Prim.Native.Nat.{ℕ, ◌%◌}
-use mathlib.Core.Path.{◌≡◌, refl, ap, ◌∙◌}
+use mathlib.Core.Path.{◌≡◌, refl, ap, subst, ◌∙◌}
 use mathlib.Core.Bool.{Bool, true, false}
 use lib.Dec.{eqb, ltb}
 use Rattle.bits.specs.Bytes.{opcode_of, read_of}
@@ -15,7 +15,7 @@ use Rattle.chip.specs.declared.Stage.TheVariants.{Standby, Address, Place, Data,
 use Rattle.chip.specs.declared.Opcode.{Opcode}
 use Rattle.chip.specs.declared.Opcode.TheVariants.{Access, LockRegister, ZoneRegister, FreezeZones, ManufacturerId, StandardSpeed, HighSpeed, Unknown}
 use Rattle.chip.specs.declared.Cycle.{Cycle}
-use Rattle.chip.specs.declared.Cycle.TheVariants.{Idle, Of}
+use Rattle.std.specs.Prelude.{Option, Some, None}
 use Rattle.chip.specs.declared.Drive.{Drive}
 use Rattle.chip.specs.declared.Drive.TheVariants.{Free, Low}
 use Rattle.chip.specs.declared.Act.{Act}
@@ -24,10 +24,10 @@ use Rattle.chip.specs.declared.Event.{Event}
 use Rattle.chip.specs.declared.Event.TheVariants.{Bit, Null, Wait, Reset, Cut}
 use Rattle.chip.specs.Head.{framing}
 use Rattle.chip.specs.Stages.{named, opened, answers_address, answers_place, answers_data, caused_by_place, caused_by_data, framed}
-use Rattle.chip.specs.Cycle.{running, due, null_of, nulled, finished, reset_of, cut_of, heard}
+use Rattle.chip.specs.Cycle.{running, due, null_of, nulled, whole, flags_after, finished, reset_of, cut_of, heard}
 use Rattle.chip.specs.Memory.{acted}
 use Rattle.chip.specs.Take.{head_of, joined, take_of}
-use Rattle.chip.specs.Kept.{Keeps}
+use Rattle.chip.specs.Kept.{FlagsAfterCycle, Keeps}
 
 -- ---- bit frames
 keeps_opened : (h : Head) (o : Opcode) (rw : Bool) → Keeps h (record { head = opened h o rw; drive = Low; act = Nothing })
@@ -79,32 +79,35 @@ keeps_bit h (Sending s n) b =
 keeps_bit h (Programming c t) b = still h (Programming c t) Free
 
 -- ---- the other events
-keeps_null : (h : Head) (r d : Cycle) → Keeps h (record { head = null_of h r d; drive = Free; act = Nothing })
-keeps_null h (Of c t) d = record { part = refl; slave = refl; flags = refl }
-keeps_null h Idle (Of c t) = record { part = refl; slave = refl; flags = refl }
-keeps_null h Idle Idle = record { part = refl; slave = refl; flags = refl }
+keeps_null : (h : Head) (r d : Option Cycle) → Keeps h (record { head = null_of h r d; drive = Free; act = Nothing })
+keeps_null h (Some r) d = record { part = refl; slave = refl; flags = refl }
+keeps_null h None (Some d) = record { part = refl; slave = refl; flags = refl }
+keeps_null h None None = record { part = refl; slave = refl; flags = refl }
+
+flags_kept : (h : Head) (c : Command) (m : ℕ) → FlagsAfterCycle h.flags (flags_after h c m) c
+flags_kept h (Page r) m = refl
+flags_kept h Lock m = tt
+flags_kept h Check m = refl
+flags_kept h Rom m = tt
+flags_kept h Freeze m = tt
 
 -- h may stand for a head with the same part, slave and flags
 module _ (h h' : Head) (p : h'.part ≡ h.part) (s : h'.slave ≡ h.slave) (f : h'.flags ≡ h.flags) where
-  keeps_finished : (r : Cycle) → Keeps h (finished h' r)
-  keeps_finished Idle = record { part = p; slave = s; flags = f }
-  keeps_finished (Of (Page r) t) = record { part = p; slave = s; flags = f }
-  keeps_finished (Of Lock t) = record { part = p; slave = s; flags = tt }
-  keeps_finished (Of Check t) = record { part = p; slave = s; flags = f }
-  keeps_finished (Of Rom t) = record { part = p; slave = s; flags = tt }
-  keeps_finished (Of Freeze t) = record { part = p; slave = s; flags = tt }
+  keeps_finished : (r : Option Cycle) → Keeps h (finished h' r)
+  keeps_finished None = record { part = p; slave = s; flags = f }
+  keeps_finished (Some r) = record {
+    part = p;
+    slave = s;
+    flags = subst (λ (old : ℕ). FlagsAfterCycle old (flags_after h' r.command whole) r.command) f (flags_kept h' r.command whole);
+  }
 
-keeps_reset : (h : Head) (r : Cycle) → Keeps h (reset_of h r)
-keeps_reset h Idle = record { part = refl; slave = refl; flags = refl }
-keeps_reset h (Of c t) = record { part = refl; slave = refl; flags = refl }
+keeps_reset : (h : Head) (r : Option Cycle) → Keeps h (reset_of h r)
+keeps_reset h None = record { part = refl; slave = refl; flags = refl }
+keeps_reset h (Some r) = record { part = refl; slave = refl; flags = refl }
 
-keeps_cut : (h : Head) (r : Cycle) (m : ℕ) → Keeps h (cut_of h r m)
-keeps_cut h Idle m = record { part = refl; slave = refl; flags = refl }
-keeps_cut h (Of (Page r) t) m = record { part = refl; slave = refl; flags = refl }
-keeps_cut h (Of Lock t) m = record { part = refl; slave = refl; flags = tt }
-keeps_cut h (Of Check t) m = record { part = refl; slave = refl; flags = refl }
-keeps_cut h (Of Rom t) m = record { part = refl; slave = refl; flags = tt }
-keeps_cut h (Of Freeze t) m = record { part = refl; slave = refl; flags = tt }
+keeps_cut : (h : Head) (r : Option Cycle) (m : ℕ) → Keeps h (cut_of h r m)
+keeps_cut h None m = record { part = refl; slave = refl; flags = refl }
+keeps_cut h (Some r) m = record { part = refl; slave = refl; flags = flags_kept h r.command m }
 
 pub keeps : (h : Head) (ev : Event) → Keeps h (heard h ev)
 unfolding heard

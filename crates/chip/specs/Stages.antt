@@ -1,9 +1,7 @@
 -- The stages: which byte is answered, what an answered byte causes, and what a bit frame does. In document 01's order and words.
-use Rattle.std.specs.Prelude.{ℕ, ◌+◌, ◌%◌, Bool, true, false, eqb, ltb}
+use Rattle.std.specs.Prelude.{ℕ, ◌+◌, ◌%◌, Bool, true, false, eqb, ltb, Option, Some, None}
 use Rattle.bits.specs.Words.{pick, both, is_not}
 use Rattle.bits.specs.Bytes.{more_of, opcode_of, slave_of, read_of, main_address, security_address, after_in, next_in, is_lock_byte, is_freeze_byte, zone_of, is_set, is_rom, is_frozen, is_locked, zone_at}
-use Rattle.bits.specs.declared.Selector.{Selector}
-use Rattle.bits.specs.declared.Selector.TheVariants.{Unset, Zone}
 use Rattle.chip.specs.declared.Head.{Head}
 use Rattle.chip.specs.declared.Framed.{Framed}
 use Rattle.chip.specs.declared.Region.{Region}
@@ -120,9 +118,9 @@ next_byte (Id k) = pick (ltb k 2) (Sending (Id (k + 1)) 0) Standby
 next_byte Register = Sending Register 0
 
 -- 7h: "Reading: 00h or FFh, repeated if asked (house)"
-abbrev pub register_drive : ℕ → Selector → Drive
-register_drive flags Unset = Free
-register_drive flags (Zone z) = pick (is_rom flags z) Free Low
+abbrev pub register_drive : ℕ → Option ℕ → Drive
+register_drive flags None = Free
+register_drive flags (Some z) = pick (is_rom flags z) Free Low
 
 -- what frame n of a byte drives
 abbrev pub shows : Head → Source → ℕ → Drive

@@ -13,9 +13,9 @@ mod take;
 ghost use Rattle.std.specs.Prelude.{◌≡◌};
 ghost use Rattle.chip.specs.Head.{at, pointing, choosing, paced, flagging, framing, silent, answering};
 
-use bits::Selector;
-pub use events::running;
-pub use memory::{burn, enact, level};
+pub use data::FIRST_USER;
+pub use memory::burn;
+pub use sending::{LAST_ID, LAST_MAIN, LAST_SECURITY};
 
 // The two parts of the memory with pages: the main array (Ah) and the Security Register (Bh).
 #[derive(Clone, Copy)]
@@ -58,7 +58,7 @@ pub enum Stage {
     Programming(Command, u8),
 }
 
-#[derive(Clone, Copy)]
+#[derive(Clone, Copy, PartialEq, Eq)]
 pub enum Speed {
     High,
     Standard,
@@ -87,11 +87,11 @@ pub enum Opcode {
     Unknown,
 }
 
-// The command and the data bytes of a cycle, if there is one.
+// A cycle: its command, and how many data bytes were answered.
 #[derive(Clone, Copy)]
-pub enum Cycle {
-    Idle,
-    Of(Command, u8),
+pub struct Cycle {
+    pub command: Command,
+    pub taken: u8,
 }
 
 // What of a device the rules look at and change: all but the bytes.
@@ -102,7 +102,8 @@ pub struct Head {
     pub flags: u8,
     pub pointer: u8,
     pub speed: Speed,
-    pub selector: Selector,
+    // the zone that is selected, if one is
+    pub selector: Option<u8>,
     pub stage: Stage,
 }
 
@@ -141,7 +142,7 @@ pub struct Device {
     pub user: [u8; 16],
     pub pointer: u8,
     pub speed: Speed,
-    pub selector: Selector,
+    pub selector: Option<u8>,
     // the gathered bytes, each at its address mod 8
     pub page: [u8; 8],
     pub stage: Stage,
@@ -156,90 +157,55 @@ pub struct Taken {
 
 impl Head {
     // On in another stage, with what it drives and asks of the bytes.
-    pub fn frames(self, s: Stage, v: Drive, a: Act) -> Framed
-        ensures { result ≡ framing self s v a }
+    pub fn frames(self, stage: Stage, drive: Drive, act: Act) -> Framed
+        ensures { result ≡ framing self stage drive act }
     {
-        let h = self.at(s);
         Framed {
-            head: h,
-            drive: v,
-            act: a,
+            head: self.at(stage),
+            drive,
+            act,
         }
     }
 
-    pub fn silent(self, s: Stage) -> Framed
-        ensures { result ≡ silent self s }
+    pub fn silent(self, stage: Stage) -> Framed
+        ensures { result ≡ silent self stage }
     {
-        self.frames(s, Drive::Free, Act::Nothing)
+        self.frames(stage, Drive::Free, Act::Nothing)
     }
 
-    pub fn answering(self, s: Stage) -> Framed
-        ensures { result ≡ answering self s }
+    pub fn answering(self, stage: Stage) -> Framed
+        ensures { result ≡ answering self stage }
     {
-        self.frames(s, Drive::Low, Act::Nothing)
+        self.frames(stage, Drive::Low, Act::Nothing)
     }
 
-    pub fn at(self, s: Stage) -> Head
-        ensures { result ≡ at self s }
+    pub fn at(self, stage: Stage) -> Head
+        ensures { result ≡ at self stage }
     {
-        let speed = self.speed;
-        let selector = self.selector;
-        Head {
-            part: self.part,
-            slave: self.slave,
-            flags: self.flags,
-            pointer: self.pointer,
-            speed: speed,
-            selector: selector,
-            stage: s,
-        }
+        Head { stage, ..self }
     }
 
-    pub fn pointing(self, p: u8) -> Head
-        ensures { result ≡ pointing self p }
+    pub fn pointing(self, pointer: u8) -> Head
+        ensures { result ≡ pointing self pointer }
     {
-        let mut h = self;
-        h.pointer = p;
-        h
+        Head { pointer, ..self }
     }
 
-    pub fn flagging(self, f: u8) -> Head
-        ensures { result ≡ flagging self f }
+    pub fn flagging(self, flags: u8) -> Head
+        ensures { result ≡ flagging self flags }
     {
-        let mut h = self;
-        h.flags = f;
-        h
+        Head { flags, ..self }
     }
 
-    pub fn choosing(self, z: Selector) -> Head
-        ensures { result ≡ choosing self z }
+    pub fn choosing(self, selector: Option<u8>) -> Head
+        ensures { result ≡ choosing self selector }
     {
-        let speed = self.speed;
-        let stage = self.stage;
-        Head {
-            part: self.part,
-            slave: self.slave,
-            flags: self.flags,
-            pointer: self.pointer,
-            speed: speed,
-            selector: z,
-            stage: stage,
-        }
+        Head { selector, ..self }
     }
 
-    pub fn paced(self, v: Speed) -> Head
-        ensures { result ≡ paced self v }
+    pub fn paced(self, speed: Speed) -> Head
+        ensures { result ≡ paced self speed }
     {
-        let selector = self.selector;
-        let stage = self.stage;
-        Head {
-            part: self.part,
-            slave: self.slave,
-            flags: self.flags,
-            pointer: self.pointer,
-            speed: v,
-            selector: selector,
-            stage: stage,
-        }
+        Head { speed, ..self }
     }
 }

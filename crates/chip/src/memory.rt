@@ -1,6 +1,6 @@
 // The bytes of a device: what stands at an address, and what a cycle leaves.
-ghost use Rattle.std.specs.Prelude.{◌≡◌, ◌%◌, []};
-ghost use Rattle.chip.specs.Memory.{of_bytes, security_byte, cell_of, level_of, gathered, burnt_cell, burnt_to, programmed, acted, enacted};
+ghost use Rattle.std.specs.Prelude.{◌≡◌, ◌%◌};
+ghost use Rattle.chip.specs.Memory.{security_byte, cell_of, level_of, gathered, burnt_cell, burnt_to, programmed, acted};
 
 use crate::{Act, Command, Device, Drive, Region};
 
@@ -15,156 +15,86 @@ pub fn gathered(p: u8, taken: u8, k: u8) -> bool
 fn burn_cell(cells: &mut [u8], at: usize, on: bool, new: u8, mask: u8)
     ensures { cells.new ≡ burnt_cell cells.old at on new mask }
 {
-    if on {
-        if at < cells.len() {
-            cells[at] = bits::merge(cells[at], new, mask);
-            return;
-        }
-        return;
+    if on && at < cells.len() {
+        cells[at] = bits::merge(cells[at], new, mask);
     }
 }
 
 // A cycle on the page of eight that begins at `base`.
-pub fn burn(cells: &mut [u8], base: u8, page: [u8; 8], p: u8, taken: u8, mask: u64)
-    ensures { cells.new ≡ burnt_to 8 cells.old base page p taken mask }
+#[tactic(auto, unfolding(crate::specs::Memory::burnt_to))]
+pub fn burn(cells: &mut [u8], base: u8, page: &[u8; 8], p: u8, taken: u8, mask: u64)
+    ensures { cells.new ≡ burnt_to 8 cells.old base page.now p taken mask }
 {
-    let from = base as usize;
-    let mut k: u8 = 0;
-    while k < 8 {
-        let i = k as usize;
-        let at = from + i;
+    for k in 0..8 {
         burn_cell(
             cells,
-            at,
+            base as usize + k as usize,
             gathered(p, taken, k),
-            page[i],
+            page[k as usize],
             bits::mask_byte(mask, k),
         );
-        k += 1;
-    }
-}
-
-// The byte of the Security Register at an address.
-fn security_byte<'a>(serial: &'a [u8; 8], user: &'a [u8; 16], q: u8) -> u8
-    ensures { result ≡ security_byte (of_bytes [] [] serial.now user.now []) (q % 32) }
-{
-    let at = (q % 32) as usize;
-    if at < 8 {
-        return serial[at];
-    }
-    if at < 16 {
-        return 0xFF;
-    }
-    let k = at - 16;
-    user[k]
-}
-
-// The byte at an address of a region.
-fn cell<'a>(main: &'a [u8; 128], serial: &'a [u8; 8], user: &'a [u8; 16], r: Region, p: u8) -> u8
-    ensures { result ≡ cell_of (of_bytes [] main.now serial.now user.now []) r p }
-{
-    match r {
-        Region::Main => {
-            let k = (p % 128) as usize;
-            main[k]
-        }
-        Region::Security => security_byte(serial, user, p),
-    }
-}
-
-// The level that a drive puts on the wire, by the bytes where they lie.
-#[tactic(auto, unfolding(crate::specs::Memory::level_of))]
-pub fn level<'a>(
-    v: Drive,
-    id: &'a [u8; 3],
-    main: &'a [u8; 128],
-    serial: &'a [u8; 8],
-    user: &'a [u8; 16],
-) -> u8
-    ensures { result ≡ level_of (of_bytes id.now main.now serial.now user.now []) v }
-{
-    match v {
-        Drive::Free => 1,
-        Drive::Low => 0,
-        Drive::CellBit(r, p, n) => bits::bit_at(cell(main, serial, user, r, p), n),
-        Drive::IdBit(k, n) => {
-            let i = (k % 3) as usize;
-            bits::bit_at(id[i], n)
-        }
-    }
-}
-
-// A cycle on the cells of a region, from the gathered page.
-fn program<'a>(
-    c: Command,
-    p: u8,
-    taken: u8,
-    mask: u64,
-    main: &'a mut [u8; 128],
-    user: &'a mut [u8; 16],
-    page: [u8; 8],
-)
-    ensures { (main.new ≡ (programmed (of_bytes [] main.old [] user.old page) c p taken mask).main) × (user.new ≡ (programmed (of_bytes [] main.old [] user.old page) c p taken mask).user) }
-{
-    match c {
-        Command::Page(r) => match r {
-            Region::Main => burn(main, p % 128 / 8 * 8, page, p, taken, mask),
-            Region::Security => burn(user, p % 16 / 8 * 8, page, p, taken, mask),
-        },
-        Command::Lock => {}
-        Command::Check => {}
-        Command::Rom => {}
-        Command::Freeze => {}
-    }
-}
-
-// What an act makes of the bytes, where they lie.
-#[tactic(auto, unfolding(crate::specs::Memory::acted))]
-pub fn enact<'a>(a: Act, main: &'a mut [u8; 128], user: &'a mut [u8; 16], page: &'a mut [u8; 8])
-    ensures { (main.new ≡ (enacted a main.old user.old page.old).main) × ((user.new ≡ (enacted a main.old user.old page.old).user) × (page.new ≡ (enacted a main.old user.old page.old).page)) }
-{
-    match a {
-        Act::Nothing => {}
-        Act::Put(k, x) => {
-            let i = (k % 8) as usize;
-            page[i] = x;
-        }
-        Act::Program(c, p, taken, mask) => program(c, p, taken, mask, main, user, *page),
     }
 }
 
 impl Device {
+    // The byte of the Security Register at an address.
+    fn security_byte(&self, address: u8) -> u8
+        ensures { result ≡ security_byte self.now (address % 32) }
+    {
+        match (address % 32) as usize {
+            at @ 0..8 => self.serial[at],
+            8..16 => 0xFF,
+            at => self.user[at - 16],
+        }
+    }
+
     // The byte at an address of a region.
-    pub fn cell(self, r: Region, p: u8) -> u8
-        ensures { result ≡ cell_of self r p }
+    pub fn cell(&self, region: Region, p: u8) -> u8
+        ensures { result ≡ cell_of self.now region p }
     {
-        let main = self.main;
-        let serial = self.serial;
-        let user = self.user;
-        cell(&main, &serial, &user, r, p)
+        match region {
+            Region::Main => self.main[(p % 128) as usize],
+            Region::Security => self.security_byte(p),
+        }
     }
 
-    pub fn level(self, v: Drive) -> u8
-        ensures { result ≡ level_of self v }
+    // The level that a drive puts on the wire.
+    #[tactic(auto, unfolding(crate::specs::Memory::level_of))]
+    pub fn level(&self, drive: Drive) -> u8
+        ensures { result ≡ level_of self.now drive }
     {
-        let id = self.id;
-        let main = self.main;
-        let serial = self.serial;
-        let user = self.user;
-        level(v, &id, &main, &serial, &user)
+        match drive {
+            Drive::Free => 1,
+            Drive::Low => 0,
+            Drive::CellBit(region, p, n) => bits::bit_at(self.cell(region, p), n),
+            Drive::IdBit(k, n) => bits::bit_at(self.id[(k % 3) as usize], n),
+        }
     }
 
-    pub fn acts(self, a: Act) -> Device
-        ensures { result ≡ acted self a }
+    // A cycle on the cells of a region, from the gathered page.
+    fn program(&mut self, command: Command, p: u8, taken: u8, mask: u64)
+        ensures { self.new ≡ programmed self.old command p taken mask }
     {
-        let mut main = self.main;
-        let mut user = self.user;
-        let mut page = self.page;
-        enact(a, &mut main, &mut user, &mut page);
-        let mut d = self;
-        d.main = main;
-        d.user = user;
-        d.page = page;
-        d
+        match command {
+            Command::Page(Region::Main) => {
+                burn(&mut self.main, p % 128 / 8 * 8, &self.page, p, taken, mask)
+            }
+            Command::Page(Region::Security) => {
+                burn(&mut self.user, p % 16 / 8 * 8, &self.page, p, taken, mask)
+            }
+            Command::Lock | Command::Check | Command::Rom | Command::Freeze => {}
+        }
+    }
+
+    // What an act makes of the bytes.
+    #[tactic(auto, unfolding(crate::specs::Memory::acted))]
+    pub fn acts(&mut self, act: Act)
+        ensures { self.new ≡ acted self.old act }
+    {
+        match act {
+            Act::Nothing => {}
+            Act::Put(k, byte) => self.page[(k % 8) as usize] = byte,
+            Act::Program(command, p, taken, mask) => self.program(command, p, taken, mask),
+        }
     }
 }

@@ -5,63 +5,51 @@ ghost use Rattle.chip.specs.declared.Stage.TheVariants.{Place};
 
 use crate::{Command, Framed, Head, Region, Stage};
 
-pub fn address_in(r: Region, byte: u8) -> u8
-    ensures { result ≡ address_in r byte }
-{
-    match r {
-        Region::Main => bits::main_address(byte),
-        Region::Security => bits::security_address(byte),
+impl Region {
+    fn address_in(self, byte: u8) -> u8
+        ensures { result ≡ address_in self byte }
+    {
+        match self {
+            Region::Main => bits::main_address(byte),
+            Region::Security => bits::security_address(byte),
+        }
     }
 }
 
 impl Head {
-    fn answers_lock_byte(self, byte: u8) -> bool
-        ensures { result ≡ answers_place self Command.Lock byte }
+    pub fn answers_place(self, command: Command, byte: u8) -> bool
+        ensures { result ≡ answers_place self command byte }
     {
-        if bits::is_lock_byte(byte) {
-            return bits::unlocked(self.flags);
-        }
-        false
-    }
-
-    pub fn answers_place(self, c: Command, byte: u8) -> bool
-        ensures { result ≡ answers_place self c byte }
-    {
-        match c {
+        match command {
             Command::Page(_) => true,
-            Command::Lock => self.answers_lock_byte(byte),
-            Command::Check => self.answers_lock_byte(byte),
-            Command::Rom => bits::is_set(bits::zone_of(byte)),
+            Command::Lock | Command::Check => {
+                bits::is_lock_byte(byte) && bits::unlocked(self.flags)
+            }
+            Command::Rom => bits::zone_of(byte).is_some(),
             Command::Freeze => bits::is_freeze_byte(byte),
         }
     }
 
-    pub fn place_causes(self, c: Command, byte: u8) -> Framed
-        ensures { result ≡ caused_by_place self c byte }
+    pub fn place_causes(self, command: Command, byte: u8) -> Framed
+        ensures { result ≡ caused_by_place self command byte }
     {
-        match c {
-            Command::Page(r) => self
-                .pointing(address_in(r, byte))
-                .answering(Stage::Data(Command::Page(r), 0, 0, 0)),
-            Command::Lock => self.answering(Stage::Data(Command::Lock, 0, 0, 0)),
-            Command::Check => self.answering(Stage::Data(Command::Check, 0, 0, 0)),
-            Command::Rom => self
-                .choosing(bits::zone_of(byte))
-                .answering(Stage::Data(Command::Rom, 0, 0, 0)),
-            Command::Freeze => self.answering(Stage::Data(Command::Freeze, 0, 0, 0)),
-        }
+        let head = match command {
+            Command::Page(region) => self.pointing(region.address_in(byte)),
+            Command::Rom => self.choosing(bits::zone_of(byte)),
+            Command::Lock | Command::Check | Command::Freeze => self,
+        };
+        head.answering(Stage::Data(command, 0, 0, 0))
     }
 
-    pub fn place_frame(self, c: Command, count: u8, byte: u8, bit: u8) -> Framed
-        ensures { result ≡ framed self (Place c count byte) bit }
+    pub fn place_frame(self, command: Command, count: u8, byte: u8, bit: u8) -> Framed
+        ensures { result ≡ framed self (Place command count byte) bit }
     {
         if count < 8 {
-            let next = count + 1;
-            return self.silent(Stage::Place(c, next, bits::more(byte, bit)));
+            self.silent(Stage::Place(command, count + 1, bits::more(byte, bit)))
+        } else if self.answers_place(command, byte) {
+            self.place_causes(command, byte)
+        } else {
+            self.silent(Stage::Standby)
         }
-        if self.answers_place(c, byte) {
-            return self.place_causes(c, byte);
-        }
-        self.silent(Stage::Standby)
     }
 }

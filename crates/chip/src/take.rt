@@ -5,64 +5,52 @@ ghost use Rattle.chip.specs.Take.{head_of, joined, take_of};
 use crate::{Device, Event, Head, Taken};
 
 impl Device {
-    pub fn head(self) -> Head
-        ensures { result ≡ head_of self }
+    pub fn head(&self) -> Head
+        ensures { result ≡ head_of self.now }
     {
-        let speed = self.speed;
-        let selector = self.selector;
-        let stage = self.stage;
         Head {
             part: self.part,
             slave: self.slave,
             flags: self.flags,
             pointer: self.pointer,
-            speed: speed,
-            selector: selector,
-            stage: stage,
+            speed: self.speed,
+            selector: self.selector,
+            stage: self.stage,
         }
     }
 
     // The device's bytes under another head.
-    pub fn under(self, h: Head) -> Device
-        ensures { result ≡ joined h self }
+    pub fn put_head(&mut self, head: Head)
+        ensures { self.new ≡ joined head self.old }
     {
-        let id = self.id;
-        let main = self.main;
-        let serial = self.serial;
-        let user = self.user;
-        let page = self.page;
-        let speed = h.speed;
-        let selector = h.selector;
-        let stage = h.stage;
-        Device {
-            part: h.part,
-            slave: h.slave,
-            id: id,
-            flags: h.flags,
-            main: main,
-            serial: serial,
-            user: user,
-            pointer: h.pointer,
-            speed: speed,
-            selector: selector,
-            page: page,
-            stage: stage,
-        }
+        self.part = head.part;
+        self.slave = head.slave;
+        self.flags = head.flags;
+        self.pointer = head.pointer;
+        self.speed = head.speed;
+        self.selector = head.selector;
+        self.stage = head.stage;
     }
 
+    // One event, in place; the level that the device drives: 0, or 1 where it leaves the wire free.
     #[tactic(auto, unfolding(crate::specs::Take::take_of))]
+    pub fn takes(&mut self, ev: Event) -> u8
+        ensures device { self.new ≡ (take_of self.old ev).device }
+        ensures level { result ≡ (take_of self.old ev).level }
+    {
+        let framed = self.head().hears(ev);
+        let level = self.level(framed.drive);
+        self.put_head(framed.head);
+        self.acts(framed.act);
+        level
+    }
+
+    // The same by value.
     pub fn take(self, ev: Event) -> Taken
         ensures { result ≡ take_of self ev }
     {
-        let f = self.head().hears(ev);
-        let h = f.head;
-        let v = f.drive;
-        let a = f.act;
-        let level = self.level(v);
-        let d = self.under(h).acts(a);
-        Taken {
-            device: d,
-            level: level,
-        }
+        let mut device = self;
+        let level = device.takes(ev);
+        Taken { device, level }
     }
 }

@@ -1,7 +1,6 @@
 -- "Checked examples. The following are shown of the definitions, as a single list under a single statement". Proved in proofs/Checked.antt, by computation.
-use Rattle.std.specs.Prelude.{ℕ, ◌+◌, ◌*◌, ◌^◌, ◌≡◌, List, [], ◌∷◌, ◌++◌, get_or, replicate, length, drop}
+use Rattle.std.specs.Prelude.{ℕ, ◌+◌, ◌*◌, ◌^◌, ◌≡◌, Some, List, [], ◌∷◌, ◌++◌, get_or, replicate, length, drop}
 use Rattle.bits.specs.Bytes.{bit_at}
-use Rattle.bits.specs.declared.Selector.TheVariants.{Zone}
 use Rattle.chip.specs.declared.Device.{Device}
 use Rattle.chip.specs.declared.Event.{Event}
 use Rattle.chip.specs.declared.Event.TheVariants.{Bit, Null, Wait, Reset, Cut}
@@ -70,7 +69,7 @@ pub record Examples : Type 0 where
   pub mixture : cell (loaded 0 0xF0 ∷ []) (start (0xA0 ∷ 0x00 ∷ 0x3C ∷ []) ++ (Null ∷ Cut 0x0F ∷ [])) 0x00 ≡ 0xFC
   -- 10. "Zone byte 03h not answered; F4h selects zone 2."
   pub two_zones : last_answer one (start (0x70 ∷ 0x03 ∷ [])) ≡ 1
-  pub zone_two : (get_or (last_of one (start (0x70 ∷ 0xF4 ∷ []))) 0 (loaded 0 0)).selector ≡ Zone 2
+  pub zone_two : (get_or (last_of one (start (0x70 ∷ 0xF4 ∷ []))) 0 (loaded 0 0)).selector ≡ Some 2
   -- 11. "Pointer 45h, then a Bh read: Security 05h."
   pub one_pointer : read (drop 29 (answers_of one (start (0xA0 ∷ 0x45 ∷ []) ++ (start (0xB1 ∷ []) ++ eight 0xFF)))) ≡ 5
   -- 12. "Zone 0 ROM: data at 1Fh not answered, at 20h answered."

@@ -1,7 +1,6 @@
 // The bus file: its first fault with the place (scan.rt), its records as devices (loading.rt), a record of a device's stored fields (saving.rt), the view of one zone (view.rt).
 #![tactic(auto)]
 
-mod bytes;
 mod layout;
 mod loading;
 mod saving;
@@ -9,20 +8,18 @@ mod scan;
 mod view;
 
 use chip::Device;
-use faults::Fault;
 pub use layout::{
     FLAGS_AT, HIGHEST_FLAGS, HIGHEST_SLAVE, HIGHEST_ZONE, ID_AT, LONGEST_FILE, MAIN_AT, MAIN_SIZE,
     MOST_RECORDS, RECORD_SIZE, SERIAL_AT, USER_AT, USER_SIZE,
 };
 pub use loading::{load, load_record};
 pub use saving::save_record;
-pub use scan::bus_fault;
+pub use scan::{bus_fault, is_part};
 pub use view::{view_at, view_fault, zone_view};
 
-// The first fault of a file, how many devices it has, and these, with blank ones after them; none on a refusal.
+// How many devices a file has, and these, with blank ones after them.
 #[derive(Clone, Copy)]
 pub struct Loaded {
-    pub fault: Fault,
     pub count: usize,
-    pub devices: [Device; 8],
+    pub devices: [Device; MOST_RECORDS],
 }

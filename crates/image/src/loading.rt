@@ -1,112 +1,87 @@
 // A bus file's records as devices.
-ghost use Rattle.std.specs.Prelude.{◌≡◌, ◌≤◌, length};
+ghost use Rattle.std.specs.Prelude.{◌≡◌, ◌+◌, ◌≤◌, length, take, drop};
 ghost use Rattle.image.specs.Layout.{record_size};
-ghost use Rattle.image.specs.Image.{at_load, device_of, blank_device, device_at, loaded_of};
+ghost use Rattle.image.specs.Image.{device_of, blank_device, device_at, loaded_of};
 
 use crate::layout::{
     FLAGS_AT, ID_AT, ID_SIZE, MAIN_AT, MAIN_SIZE, MOST_RECORDS, PART_AT, RECORD_SIZE, SERIAL_AT,
     SERIAL_SIZE, SLAVE_AT, USER_AT, USER_SIZE,
 };
-use crate::{Loaded, bytes, scan};
-use bits::Selector;
+use crate::{Loaded, scan};
 use chip::{Device, Speed, Stage};
-
-// Stored fields as a device that was just loaded.
-fn at_load(
-    part: u8,
-    slave: u8,
-    id: [u8; 3],
-    flags: u8,
-    main: [u8; 128],
-    serial: [u8; 8],
-    user: [u8; 16],
-) -> Device
-    ensures { result ≡ at_load part slave id flags main serial user }
-{
-    Device {
-        part: part,
-        slave: slave,
-        id: id,
-        flags: flags,
-        main: main,
-        serial: serial,
-        user: user,
-        pointer: 0,
-        speed: Speed::High,
-        selector: Selector::Unset,
-        page: [0u8; 8],
-        stage: Stage::Standby,
-    }
-}
+use faults::Fault;
 
 #[tactic(auto, unfolding(crate::specs::Image::blank_device))]
 fn blank() -> Device
     ensures { result ≡ blank_device }
 {
-    at_load(
-        0,
-        0,
-        [0u8; ID_SIZE],
-        0,
-        [0u8; MAIN_SIZE],
-        [0u8; SERIAL_SIZE],
-        [0u8; USER_SIZE],
-    )
+    Device {
+        part: 0,
+        slave: 0,
+        id: [0; ID_SIZE],
+        flags: 0,
+        main: [0; MAIN_SIZE],
+        serial: [0; SERIAL_SIZE],
+        user: [0; USER_SIZE],
+        pointer: 0,
+        speed: Speed::High,
+        selector: None,
+        page: [0; 8],
+        stage: Stage::Standby,
+    }
 }
 
-// The device of the record that begins a list.
-#[tactic(auto, unfolding(crate::specs::Image::device_of))]
-fn read_record(l: &[u8]) -> Device
-    requires { record_size ≤ length l.now }
-    ensures { result ≡ device_of l.now }
+// The bytes of a record's field.
+fn field<const SIZE: usize>(bytes: &[u8], at: usize) -> [u8; SIZE]
+    requires { at + SIZE ≤ length bytes.now }
+    ensures { result ≡ take SIZE (drop at bytes.now) }
 {
-    let mut id = [0u8; ID_SIZE];
-    bytes::copy(&mut id, &l[ID_AT..ID_AT + ID_SIZE]);
-    let mut main = [0u8; MAIN_SIZE];
-    bytes::copy(&mut main, &l[MAIN_AT..MAIN_AT + MAIN_SIZE]);
-    let mut serial = [0u8; SERIAL_SIZE];
-    bytes::copy(&mut serial, &l[SERIAL_AT..SERIAL_AT + SERIAL_SIZE]);
-    let mut user = [0u8; USER_SIZE];
-    bytes::copy(&mut user, &l[USER_AT..USER_AT + USER_SIZE]);
-    at_load(l[PART_AT], l[SLAVE_AT], id, l[FLAGS_AT], main, serial, user)
+    let mut field = [0; SIZE];
+    field.copy_from_slice(&bytes[at..at + SIZE]);
+    field
+}
+
+// The device of a record.
+#[tactic(auto, unfolding(crate::specs::Image::device_of, crate::specs::Image::blank_device))]
+fn read_record(bytes: &[u8]) -> Device
+    requires { record_size ≤ length bytes.now }
+    ensures { result ≡ device_of bytes.now }
+{
+    Device {
+        part: bytes[PART_AT],
+        slave: bytes[SLAVE_AT],
+        id: field(bytes, ID_AT),
+        flags: bytes[FLAGS_AT],
+        main: field(bytes, MAIN_AT),
+        serial: field(bytes, SERIAL_AT),
+        user: field(bytes, USER_AT),
+        ..blank()
+    }
 }
 
 // The device of the record at a place, blank where a record's bytes are not there.
-#[tactic(auto, unfolding(crate::specs::Image::device_at, crate::specs::Image::device_of))]
+#[tactic(auto, unfolding(crate::specs::Image::device_at))]
 pub fn load_record(bus: &[u8], at: usize) -> Device
     ensures { result ≡ device_at bus.now at }
 {
-    if bytes::left(bus.len(), at) < RECORD_SIZE {
+    if bus.len().saturating_sub(at) < RECORD_SIZE {
         return blank();
     }
     read_record(&bus[at..])
 }
 
 // The devices of a bus file, or its first fault.
-#[tactic(auto, unfolding(crate::specs::Image::loaded_of))]
-pub fn load(bus: &[u8]) -> Loaded
+#[tactic(auto, unfolding(crate::specs::Image::loaded_of), using(crate::proofs::Files::devices_count, crate::proofs::Files::table_is, crate::proofs::Files::loaded_all))]
+pub fn load(bus: &[u8]) -> Result<Loaded, Fault>
     ensures { result ≡ loaded_of bus.now }
 {
-    let f = scan::bus_fault(bus);
-    let none = blank();
-    let mut devices = [none; MOST_RECORDS];
-    if f.number != 0 {
-        return Loaded {
-            fault: f,
-            count: 0,
-            devices: devices,
-        };
+    scan::bus_fault(bus)?;
+    let mut devices = [blank(); MOST_RECORDS];
+    for (k, record) in bus.chunks_exact(RECORD_SIZE).enumerate() {
+        devices[k] = read_record(record);
     }
-    let mut count: usize = 0;
-    let mut at: usize = 0;
-    while at < bus.len() {
-        devices[count] = load_record(bus, at);
-        count += 1;
-        at += RECORD_SIZE;
-    }
-    Loaded {
-        fault: f,
-        count: count,
-        devices: devices,
-    }
+    Ok(Loaded {
+        count: bus.len() / RECORD_SIZE,
+        devices,
+    })
 }

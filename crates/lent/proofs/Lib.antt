@@ -1,7 +1,3 @@
-pub mod Cases
 pub mod Passes
-pub mod Heads
-pub mod Numbers
-pub mod Same
-pub mod Records
+pub mod Steps
 pub mod Road

@@ -4,7 +4,7 @@ use native.Mathlib.Omega.{arith}
 use mathlib.Core.Path.{◌≡◌, refl, sym, ap, ◌∙◌}
 use mathlib.Core.Bool.{Bool, true, false}
 use mathlib.Core.List.{List, [], ◌∷◌, map}
-use borrow.Author.Tests.{lt-ltb, le-ltb, eq-eqb, ne_eqb}
+use borrow.Author.Tests.{lt-ltb, le-ltb, lt-leb}
 use lib.ListN.{length}
 use Rattle.bits.specs.Words.{pick}
 use Rattle.chip.specs.declared.Region.TheVariants.{Main, Security}
@@ -34,45 +34,42 @@ use Rattle.image.proofs.Lists.{laid_all}
 use Rattle.image.proofs.Forth.{all_sized}
 use Rattle.table.specs.WellFormed.{well_formed}
 use Rattle.table.proofs.Kept.{kept}
-use Rattle.lent.specs.declared.Stepped.{Stepped}
-use Rattle.lent.specs.declared.Stepped.TheVariants.{Answer}
-use Rattle.lent.specs.declared.Saved.TheVariants.{Done}
-use Rattle.lent.specs.Step.{number_of, answer_byte_of, last_kind, step_number, stepped_of, step_answer}
-use Rattle.lent.specs.Save.{number_of as saved_number_of, save_number, save_answer, saved_room}
+use Rattle.std.specs.Prelude.{Result, Ok}
+use Rattle.faults.specs.declared.Refusal.{Refusal}
+use Rattle.faults.specs.Faults.{number_in, number_by}
+use Rattle.faults.proofs.FaultLaws.{done_by, refused_by, number_stays, held_by}
+use Rattle.lent.specs.Step.{answer_byte_of, last_kind, step_check, step_number, stepped_of, step_answer}
+use Rattle.lent.specs.Save.{save_number, save_answer, saved_room}
+use Rattle.lent.proofs.Steps.{answered, stepped, kind_done}
 use Rattle.lent.specs.Road.{kind_of, mask_of, steps_of, step_answers, Steps, Road}
-use Rattle.lent.proofs.Numbers.{good_of, many}
 
 -- ---- one step, one save
+many : (ds : List Device) → most_records < length ds → well_formed ds ≡ false
+unfolding well_formed
+many ds h = rw (lt-leb (length ds) most_records h) refl
+
 step_many : (ds : List Device) (kind : ℕ) → most_records < length ds → step_number ds kind ≡ 15
-unfolding step_number
-step_many ds kind h = rw (← many ds h) refl
+unfolding step_check
+step_many ds kind h = rw (many ds h) refl
 
 save_many : (ds : List Device) (room : ℕ) → most_records < length ds → save_number ds room ≡ 15
-unfolding save_number
-save_many ds room h = rw (← many ds h) refl
+unfolding save_answer
+save_many ds room h = rw (many ds h) refl
 
-step_refused : (ds : List Device) (kind mask : ℕ) → (step_number ds kind ≡ 0 → ⊥) → (number_of (step_answer ds kind mask) ≡ step_number ds kind) × (stepped_of ds kind mask ≡ ds)
+step_refused : (ds : List Device) (kind mask : ℕ) → (step_number ds kind ≡ 0 → ⊥) → (number_by (step_answer ds kind mask) ≡ step_number ds kind) × (stepped_of ds kind mask ≡ ds)
 unfolding step_answer stepped_of
-step_refused ds kind mask f = rw (ne_eqb (step_number ds kind) 0 f) (refl, refl)
+step_refused ds kind mask f = (number_stays (step_check ds kind) _, rw (refused_by (step_check ds kind) f) refl)
 
-save_refused : (ds : List Device) (room : List ℕ) → (save_number ds (length room) ≡ 0 → ⊥) → (saved_number_of (save_answer ds (length room)) ≡ save_number ds (length room)) × (saved_room ds room ≡ room)
-unfolding save_answer saved_room
-save_refused ds room f = rw (ne_eqb (save_number ds (length room)) 0 f) (refl, refl)
+save_refused : (ds : List Device) (room : List ℕ) → (save_number ds (length room) ≡ 0 → ⊥) → (number_by (save_answer ds (length room)) ≡ save_number ds (length room)) × (saved_room ds room ≡ room)
+unfolding saved_room
+save_refused ds room f = (refl, rw (refused_by (save_answer ds (length room)) f) refl)
 
-answered : (ds : List Device) (kind mask : ℕ) → step_number ds kind ≡ 0 → step_answer ds kind mask ≡ Answer (answer_of ds (kind_event kind mask))
-unfolding step_answer
-answered ds kind mask e = rw (eq-eqb (step_number ds kind) 0 e) refl
-
-stepped : (ds : List Device) (kind mask : ℕ) → step_number ds kind ≡ 0 → stepped_of ds kind mask ≡ next_of ds (kind_event kind mask)
-unfolding stepped_of
-stepped ds kind mask e = rw (eq-eqb (step_number ds kind) 0 e) refl
-
-step_done : (ds : List Device) (kind mask : ℕ) → step_number ds kind ≡ 0 → (number_of (step_answer ds kind mask) ≡ 0) × (answer_byte_of (step_answer ds kind mask) ≡ answer_of ds (kind_event kind mask))
+step_done : (ds : List Device) (kind mask : ℕ) → step_number ds kind ≡ 0 → (number_by (step_answer ds kind mask) ≡ 0) × (answer_byte_of (step_answer ds kind mask) ≡ answer_of ds (kind_event kind mask))
 step_done ds kind mask e = rw (answered ds kind mask e) (refl, refl)
 
 number_good : (ds : List Device) (kind : ℕ) → step_number ds kind ≡ 0 → well_formed ds ≡ true
-unfolding step_number
-number_good ds kind e = (good_of (well_formed ds) _ e).0
+unfolding step_check
+number_good ds kind e = (held_by (well_formed ds) _ _ e).0
 
 step_kept : (ds : List Device) (kind mask : ℕ) → step_number ds kind ≡ 0 → well_formed (stepped_of ds kind mask) ≡ true
 step_kept ds kind mask e = rw (stepped ds kind mask e) (kept.step ds (kind_event kind mask) (number_good ds kind e))
@@ -86,10 +83,6 @@ event_is Reset g = (omega arith, refl)
 event_is (Cut mask) g = (omega arith, refl)
 
 -- ---- a step for each event
-kind_done : (ds : List Device) (kind : ℕ) → well_formed ds ≡ true → kind ≤ last_kind → step_number ds kind ≡ 0
-unfolding step_number
-kind_done ds kind w h = rw (w, le-ltb last_kind kind h) refl
-
 module _ (ds : List Device) (ev : Event) (w : well_formed ds ≡ true) (g : Good ev) where
   number : step_number ds (kind_of ev) ≡ 0
   number = kind_done ds (kind_of ev) w (event_is ev g).0
@@ -97,19 +90,19 @@ module _ (ds : List Device) (ev : Event) (w : well_formed ds ≡ true) (g : Good
   one_step : stepped_of ds (kind_of ev) (mask_of ev) ≡ next_of ds ev
   one_step = stepped ds (kind_of ev) (mask_of ev) number ∙ ap (next_of ds) (event_is ev g).1
 
-  one_answer : step_answer ds (kind_of ev) (mask_of ev) ≡ Answer (answer_of ds ev)
-  one_answer = answered ds (kind_of ev) (mask_of ev) number ∙ ap (λ (e : Event). Answer (answer_of ds e)) (event_is ev g).1
+  one_answer : step_answer ds (kind_of ev) (mask_of ev) ≡ Ok (answer_of ds ev)
+  one_answer = answered ds (kind_of ev) (mask_of ev) number ∙ ap (λ (e : Event). Ok (answer_of ds e)) (event_is ev g).1
 
 all_steps : (ds : List Device) (evs : List Event) → well_formed ds ≡ true → AllGood evs → steps_of ds evs ≡ last_of ds evs
 unfolding steps_of last_of
 all_steps ds [] w g = refl
 all_steps ds (ev ∷ evs) w g = rw (one_step ds ev w g.0) (all_steps (next_of ds ev) evs (kept.step ds ev w) g.1)
 
-all_answers : (ds : List Device) (evs : List Event) → well_formed ds ≡ true → AllGood evs → step_answers ds evs ≡ map Answer (answers_of ds evs)
+all_answers : (ds : List Device) (evs : List Event) → well_formed ds ≡ true → AllGood evs → step_answers ds evs ≡ map Ok (answers_of ds evs)
 unfolding step_answers answers_of
 all_answers ds [] w g = refl
 all_answers ds (ev ∷ evs) w g =
-    rw (one_step ds ev w g.0, one_answer ds ev w g.0) (ap (λ (l : List Stepped). Answer (answer_of ds ev) ∷ l) (all_answers (next_of ds ev) evs (kept.step ds ev w) g.1))
+    rw (one_step ds ev w g.0, one_answer ds ev w g.0) (ap (λ (l : List (Result ℕ Refusal)). Ok (answer_of ds ev) ∷ l) (all_answers (next_of ds ev) evs (kept.step ds ev w) g.1))
 
 -- ---- the arrays of the devices keep their lengths, so that the saved file keeps its own
 acts_sized : (d : Device) (a : Act) → Sized d → Sized (acted d a)
@@ -149,7 +142,7 @@ last_sized ds (ev ∷ evs) s =
     (r.0 ∙ n.0, r.1)
 
 -- ---- a run
-module _ (bus tape : List ℕ) (e : (bus_fault bus).number ≡ 0) (b : Bytes tape) where
+module _ (bus tape : List ℕ) (e : number_in (bus_fault bus) ≡ 0) (b : Bytes tape) where
   abbrev ds : List Device
   ds = devices_of bus
 
@@ -172,19 +165,18 @@ module _ (bus tape : List ℕ) (e : (bus_fault bus).number ≡ 0) (b : Bytes tap
 
   module _ (room : List ℕ) (h : length room ≡ length bus) where
     number_none : save_number last (length room) ≡ 0
-    unfolding save_number
+    unfolding save_answer
     number_none =
         let z = promised.saved_length last at_end.1 in
         let f = file_long in
         rw (kept.run ds (events_of tape) (kept.load bus e), le-ltb (length room) (record_size * length last) (omega (arith, z, f, h))) refl
 
-    saved_done : save_answer last (length room) ≡ Done
-    unfolding save_answer
-    saved_done = rw (eq-eqb (save_number last (length room)) 0 number_none) refl
+    saved_done : save_answer last (length room) ≡ Ok tt
+    saved_done = done_by (save_answer last (length room)) number_none
 
     saved_file : saved_room last room ≡ saved_of last
     unfolding saved_room
-    saved_file = rw (eq-eqb (save_number last (length room)) 0 number_none) (laid_all room (saved_of last) (h ∙ sym file_long))
+    saved_file = rw saved_done (laid_all room (saved_of last) (h ∙ sym file_long))
 
   steps_are : steps_of ds (events_of tape) ≡ last
   steps_are = all_steps ds (events_of tape) (kept.load bus e) good

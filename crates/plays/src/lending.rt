@@ -1,42 +1,68 @@
 // The program keeps its devices in an array, and lends the first of them, as one table, to a step and to a save.
 ghost use Rattle.std.specs.Prelude.{◌≡◌, length};
+ghost use Rattle.lent.specs.Step.{step_answer};
 ghost use Rattle.lent.specs.Save.{save_answer, saved_room};
 ghost use Rattle.plays.specs.Lending.{lent_of, played_of};
 
-use chip::Device;
-use lent::{Saved, Stepped};
+use chip::{Device, Speed, Stage};
+use faults::Refusal;
 
 // One more than a table may have, so that too many can be lent.
-pub const KEPT: usize = 9;
+const KEPT: usize = 9;
 
 // How many counts there are, from none to all: a count is taken modulo this, so that no caller owes a bound.
 const COUNTS: usize = 10;
 
-// The devices after a step, and the step's answer.
+// The devices that are kept, of which the first `count` are on the wire: those are lent.
 #[derive(Clone, Copy)]
-pub struct Played {
-    pub devices: [Device; KEPT],
-    pub answer: Stepped,
+pub struct Wired {
+    devices: [Device; KEPT],
+    count: usize,
 }
 
-// A step over the first devices.
-#[tactic(auto, unfolding(crate::specs::Lending::played_of))]
-pub fn step(devices: [Device; KEPT], count: usize, kind: u8, mask: u64) -> Played
-    ensures { result ≡ played_of devices count kind mask }
-{
-    let mut table = devices;
-    let n = count % COUNTS;
-    let answer = lent::step(&mut table[..n], kind, mask);
-    Played {
-        devices: table,
-        answer: answer,
+fn device(slave: u8) -> Device {
+    Device {
+        part: 0x11,
+        slave,
+        id: [0x00, 0xD3, 0x80],
+        flags: 0,
+        main: [0xF0; 128],
+        serial: [0xA0; 8],
+        user: [0xFF; 16],
+        pointer: 0,
+        speed: Speed::High,
+        selector: None,
+        page: [0; 8],
+        stage: Stage::Standby,
     }
 }
 
-// A save of the first devices.
-pub fn save(devices: [Device; KEPT], count: usize, room: &mut [u8]) -> Saved
-    ensures { (result ≡ save_answer (lent_of devices count) (length room.old)) × (room.new ≡ saved_room (lent_of devices count) room.old) }
-{
-    let n = count % COUNTS;
-    lent::save(&devices[..n], room)
+impl Wired {
+    // Devices at two slave addresses.
+    pub fn pair(first: u8, second: u8) -> Self {
+        let mut devices = [device(first); KEPT];
+        devices[1] = device(second);
+        Wired { devices, count: 2 }
+    }
+
+    // So many devices, all at slave address 0.
+    pub fn alike(count: usize) -> Self {
+        let devices = [device(0); KEPT];
+        Wired { devices, count }
+    }
+
+    // A step over the first devices.
+    pub fn step(&mut self, kind: u8, mask: u64) -> Result<u8, Refusal>
+        ensures answer { result ≡ step_answer (lent_of self.old) kind mask }
+        ensures devices { self.new ≡ played_of self.old kind mask }
+    {
+        lent::step(&mut self.devices[..self.count % COUNTS], kind, mask)
+    }
+
+    // A save of the first devices.
+    pub fn save(&self, room: &mut [u8]) -> Result<(), Refusal>
+        ensures { (result ≡ save_answer (lent_of self.now) (length room.old)) × (room.new ≡ saved_room (lent_of self.now) room.old) }
+    {
+        lent::save(&self.devices[..self.count % COUNTS], room)
+    }
 }

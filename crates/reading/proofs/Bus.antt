@@ -3,7 +3,7 @@ use Prim.Native.Nat.{ℕ, suc}
 use mathlib.Core.Path.{◌≡◌, refl, sym, ap, subst, ◌∙◌}
 use mathlib.Core.Bool.{Bool, true, false}
 use mathlib.Core.List.{List, [], ◌∷◌, map}
-use mathlib.Core.Option.{Option, some, none}
+use Rattle.std.specs.Prelude.{Option, Some, None}
 use lib.Dec.{T}
 use lib.ListN.{length}
 use Rattle.bits.specs.Words.{pick}
@@ -60,12 +60,12 @@ module _ (n : ℕ) (busy : Bool) (st e e' : Option (List ℕ)) (ev : Event) wher
   each_calm f (r ∷ rs) (d ∷ ds) c q = (f r d (or_l _ (any_runs rs) c) q.0, each_calm f rs ds (or_r (is_running r) _ c) q.1)
 
 calm_bit : (run : Option Begun) (st : Option (List ℕ)) (s : Stored) (d : Device) (b : ℕ) → is_some run ≡ false → Sim run st s d → Sim run (grown st b) s (take_of d (Bit b)).device
-calm_bit none st s d b e q = sim_bit st s d b q
-calm_bit (some x) st s d b e q = absurd (subst T e tt)
+calm_bit None st s d b e q = sim_bit st s d b q
+calm_bit (Some x) st s d b e q = absurd (subst T e tt)
 
-calm_reset : (run : Option Begun) (st : Option (List ℕ)) (s : Stored) (d : Device) → is_some run ≡ false → Sim run st s d → Sim run none s (take_of d Reset).device
-calm_reset none st s d e q = sim_reset st s d q
-calm_reset (some x) st s d e q = absurd (subst T e tt)
+calm_reset : (run : Option Begun) (st : Option (List ℕ)) (s : Stored) (d : Device) → is_some run ≡ false → Sim run st s d → Sim run None s (take_of d Reset).device
+calm_reset None st s d e q = sim_reset st s d q
+calm_reset (Some x) st s d e q = absurd (subst T e tt)
 
 -- bits and resets change no reading; a Cut leaves no cycle
 on_bit : (n : ℕ) (busy : Bool) (st : Option (List ℕ)) (b : ℕ) (rs : List Reading) → map (read_on n busy st (Bit b)) rs ≡ rs
@@ -83,7 +83,7 @@ unfolding read_on any_runs
 on_cut n busy st m [] = refl
 on_cut n busy st m (r ∷ rs) = on_cut n busy st m rs
 
-audible_none : (b : Bool) → audible b (some []) ≡ some []
+audible_none : (b : Bool) → audible b (Some []) ≡ Some []
 audible_none true = refl
 audible_none false = refl
 
@@ -100,17 +100,17 @@ module _ (n : ℕ) (st : Option (List ℕ)) (rs : List Reading) (ds : List Devic
       (each_calm n false st st (grown st x) (Bit x) (λ r d c p. calm_bit r.running st (now r) d x c p) rs ds e q)
   by_event Null b e q =
       subst (λ (z : Option (List ℕ)). Sims z (all_on n b st Null rs) (table_of ds Null)) (sym (audible_none (any_runs (all_on n b st Null rs))))
-      (each_one n b st (audible b st) (some []) Null (λ r d p. read_null n b st r d p) rs ds q)
+      (each_one n b st (audible b st) (Some []) Null (λ r d p. read_null n b st r d p) rs ds q)
   by_event Wait b e q =
       subst (λ (z : Option (List ℕ)). Sims z (all_on n b st Wait rs) (table_of ds Wait)) (sym (audible_none (any_runs (all_on n b st Wait rs))))
-      (each_one n b st (audible b st) (some []) Wait (λ r d p. read_wait n b st r d p) rs ds q)
+      (each_one n b st (audible b st) (Some []) Wait (λ r d p. read_wait n b st r d p) rs ds q)
   by_event Reset true e q = rw e q
   by_event Reset false e q =
-      subst (λ (c : Bool). Sims (audible c none) (all_on n false st Reset rs) (table_of ds Reset)) (sym (ap any_runs (on_reset n false st rs) ∙ e))
-      (each_calm n false st st none Reset (λ r d c p. calm_reset r.running st (now r) d c p) rs ds e q)
+      subst (λ (c : Bool). Sims (audible c None) (all_on n false st Reset rs) (table_of ds Reset)) (sym (ap any_runs (on_reset n false st rs) ∙ e))
+      (each_calm n false st st None Reset (λ r d c p. calm_reset r.running st (now r) d c p) rs ds e q)
   by_event (Cut m) b e q =
-      subst (λ (c : Bool). Sims (audible c none) (all_on n b st (Cut m) rs) (table_of ds (Cut m))) (sym (on_cut n b st m rs))
-      (each_one n b st (audible b st) none (Cut m) (λ r d p. read_cut n m (audible b st) r d p) rs ds q)
+      subst (λ (c : Bool). Sims (audible c None) (all_on n b st (Cut m) rs) (table_of ds (Cut m))) (sym (on_cut n b st m rs))
+      (each_one n b st (audible b st) None (Cut m) (λ r d p. read_cut n m (audible b st) r d p) rs ds q)
 
   step : (ev : Event) → Sims (audible (any_runs rs) st) rs ds
       → Sims (audible (any_runs (all_on n (any_runs rs) st ev rs)) (stretch_after st ev)) (all_on n (any_runs rs) st ev rs) (next_of ds ev)
@@ -132,7 +132,7 @@ unfolding any_runs
 load_calm [] = refl
 load_calm (s ∷ ss) = load_calm ss
 
-load_sims : (ds : List Device) → Loaded ds → Sims none (map fresh (map stored_of ds)) ds
+load_sims : (ds : List Device) → Loaded ds → Sims None (map fresh (map stored_of ds)) ds
 unfolding after_all
 load_sims [] l = tt
 load_sims (d ∷ ds) (one_more e p l) = (record { stage = e; stored = refl; page = p }, load_sims ds l)
@@ -167,7 +167,7 @@ pub demand3 : (ds : List Device) (evs : List Event) → Loaded ds → Demand3 ds
 demand3 ds evs l =
     let start = map fresh (map stored_of ds) in
     let rs = reading_of (map stored_of ds) evs in
-    let q = run evs 0 none start ds (subst (λ (b : Bool). Sims (audible b none) start ds) (sym (load_calm (map stored_of ds))) (load_sims ds l)) in
+    let q = run evs 0 None start ds (subst (λ (b : Bool). Sims (audible b None) start ds) (sym (load_calm (map stored_of ds))) (load_sims ds l)) in
     record {
       stored = end_stored _ rs (last_of ds evs) q;
       programming = end_running _ rs (last_of ds evs) q;

@@ -3,7 +3,7 @@ use Prim.Native.Nat.{ℕ, ◌+◌, ◌*◌, ◌/◌, ◌%◌, ◌<◌}
 use native.Mathlib.Omega.{arith}
 use mathlib.Core.Path.{◌≡◌, refl, ap}
 use mathlib.Core.List.{List}
-use mathlib.Core.Option.{none}
+use Rattle.std.specs.Prelude.{None}
 use lib.ListN.{length}
 use Rattle.bits.specs.Bytes.{bit_at}
 use Rattle.reading.specs.Stretch.{byte_of, before, bytes_of}
@@ -42,12 +42,12 @@ pub nine_frames : (x answer : ℕ) (rest : List ℕ) → x < 256 → bytes_of (f
 unfolding bytes_of
 nine_frames x answer rest h = ap (λ (y : ℕ). before y (bytes_of rest)) (bits_back x h)
 
-torn_bytes : {bs : List ℕ} → Nines bs → (length bs % 9 ≡ 0 → ⊥) → bytes_of bs ≡ none
+torn_bytes : {bs : List ℕ} → Nines bs → (length bs % 9 ≡ 0 → ⊥) → bytes_of bs ≡ None
 unfolding bytes_of
 torn_bytes empty h = absurd (h refl)
 torn_bytes (over bs p q e) h = e
 torn_bytes (nine a b c e f g i j k {rest} n) h = ap (before (byte_of a b c e f g i j)) (torn_bytes n (λ z. h (omega arith)))
 
-pub torn : (s : Stored) (bits : List ℕ) → (length bits % 9 ≡ 0 → ⊥) → sentence s bits ≡ none
+pub torn : (s : Stored) (bits : List ℕ) → (length bits % 9 ≡ 0 → ⊥) → sentence s bits ≡ None
 unfolding sentence
 torn s bits h = ap (in_bytes s) (torn_bytes (nines bits) h)

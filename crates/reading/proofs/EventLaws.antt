@@ -5,7 +5,7 @@ use native.Mathlib.Omega.{arith}
 use mathlib.Core.Path.{◌≡◌, refl, sym, ap, ◌∙◌}
 use mathlib.Core.Bool.{Bool, true, false}
 use mathlib.Core.List.{List, [], ◌∷◌, ◌++◌, map}
-use mathlib.Core.Option.{Option, some, none}
+use Rattle.std.specs.Prelude.{Option, Some, None}
 use borrow.Author.Tests.{eqb-true}
 use lib.Dec.{eqb}
 use lib.ListN.{length}
@@ -45,7 +45,7 @@ pub next_event : (ss : List Stored) (past : List Event) (ev : Event)
 unfolding read_from
 next_event ss past ev =
     let rs = reading_of ss past in
-    read_append past (ev ∷ []) 0 none (map fresh ss) ∙ ap (λ (n : ℕ). all_on n (any_runs rs) (stretch_of past) ev rs) (zero_left (length past))
+    read_append past (ev ∷ []) 0 None (map fresh ss) ∙ ap (λ (n : ℕ). all_on n (any_runs rs) (stretch_of past) ev rs) (zero_left (length past))
 
 -- ---- a Null and a Wait
 module _ (n : ℕ) (busy : Bool) (st : Option (List ℕ)) where
@@ -80,24 +80,24 @@ next_start ds past l =
 
 -- ---- a stretch is a sentence for one slave address only
 abbrev slave_in : Option (List ℕ) → ℕ
-slave_in none = 0
-slave_in (some []) = 0
-slave_in (some (x ∷ xs)) = slave_of x
+slave_in None = 0
+slave_in (Some []) = 0
+slave_in (Some (x ∷ xs)) = slave_of x
 
-unspoken : {A : Type 0} (w : A) → ◌≡◌ {A = Option A} none (some w) → ⊥
+unspoken : {A : Type 0} (w : A) → ◌≡◌ {A = Option A} None (Some w) → ⊥
 unspoken w e = let z : ◌≡◌ {A = ℕ} 0 1 = cc in omega arith
 
-picked : {A : Type 0} (t u : Bool) (o : Option A) (w : A) → pick (both t u) o none ≡ some w → t ≡ true
+picked : {A : Type 0} (t u : Bool) (o : Option A) (w : A) → pick (both t u) o None ≡ Some w → t ≡ true
 picked true u o w e = refl
 picked false u o w e = absurd (unspoken w e)
 
-in_slave : (s : Stored) (o : Option (List ℕ)) (w : Deed) → in_bytes s o ≡ some w → slave_in o ≡ s.slave
+in_slave : (s : Stored) (o : Option (List ℕ)) (w : Deed) → in_bytes s o ≡ Some w → slave_in o ≡ s.slave
 unfolding sentence_of
-in_slave s none w e = absurd (unspoken w e)
-in_slave s (some []) w e = absurd (unspoken w e)
-in_slave s (some (x ∷ xs)) w e = eqb-true (slave_of x) s.slave (picked (eqb (slave_of x) s.slave) (is_not (read_of x)) _ w e)
+in_slave s None w e = absurd (unspoken w e)
+in_slave s (Some []) w e = absurd (unspoken w e)
+in_slave s (Some (x ∷ xs)) w e = eqb-true (slave_of x) s.slave (picked (eqb (slave_of x) s.slave) (is_not (read_of x)) _ w e)
 
-pub one_slave : (s s' : Stored) (bits : List ℕ) (d d' : Deed) → sentence s bits ≡ some d → sentence s' bits ≡ some d' → s.slave ≡ s'.slave
+pub one_slave : (s s' : Stored) (bits : List ℕ) (d d' : Deed) → sentence s bits ≡ Some d → sentence s' bits ≡ Some d' → s.slave ≡ s'.slave
 unfolding sentence
 one_slave s s' bits d d' e e' = sym (in_slave s (bytes_of bits) d e) ∙ in_slave s' (bytes_of bits) d' e'
 
@@ -126,15 +126,15 @@ unfolding after_all
 slave_kept s [] = refl
 slave_kept s (c ∷ cs) = slave_kept (effect s c.deed c.ended) cs ∙ slave_effect s c.deed c.ended
 
-begun_deed : (n : ℕ) (o : Option Deed) (b : Begun) → begin_at n o ≡ some b → o ≡ some b.deed
-begun_deed n none b e = absurd (unspoken b e)
-begun_deed n (some d) b e = cc
+begun_deed : (n : ℕ) (o : Option Deed) (b : Begun) → begin_at n o ≡ Some b → o ≡ Some b.deed
+begun_deed n None b e = absurd (unspoken b e)
+begun_deed n (Some d) b e = cc
 
 pub one_begins : (n : ℕ) (busy : Bool) (stretch : Option (List ℕ)) (r r' : Reading) (b b' : Begun)
-    → begins n busy stretch (now r) ≡ some b → begins n busy stretch (now r') ≡ some b' → r.loaded.slave ≡ r'.loaded.slave
+    → begins n busy stretch (now r) ≡ Some b → begins n busy stretch (now r') ≡ Some b' → r.loaded.slave ≡ r'.loaded.slave
 one_begins n true stretch r r' b b' e e' = absurd (unspoken b e)
-one_begins n false none r r' b b' e e' = absurd (unspoken b e)
-one_begins n false (some bits) r r' b b' e e' =
+one_begins n false None r r' b b' e e' = absurd (unspoken b e)
+one_begins n false (Some bits) r r' b b' e e' =
     sym (slave_kept r.loaded r.done)
     ∙ one_slave (now r) (now r') bits b.deed b'.deed (begun_deed n _ b e) (begun_deed n _ b' e')
     ∙ slave_kept r'.loaded r'.done

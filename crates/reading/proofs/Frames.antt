@@ -4,7 +4,7 @@ use native.Mathlib.Omega.{arith}
 use mathlib.Core.Path.{◌≡◌, refl, sym, ap, subst, ◌∙◌}
 use mathlib.Core.Bool.{Bool, true, false}
 use mathlib.Core.List.{List, [], ◌∷◌, ◌++◌}
-use mathlib.Core.Option.{none}
+use Rattle.std.specs.Prelude.{None}
 use borrow.Author.Tests.{lt-ltb, ne_eqb}
 use lib.Dec.{eqb, ltb}
 use lib.ListN.{length, length-set}
@@ -22,7 +22,6 @@ use Rattle.chip.specs.declared.Stage.TheVariants.{Standby, Address, Place, Data,
 use Rattle.chip.specs.declared.Opcode.{Opcode}
 use Rattle.chip.specs.declared.Opcode.TheVariants.{Access, LockRegister, ZoneRegister, FreezeZones, ManufacturerId, StandardSpeed, HighSpeed, Unknown}
 use Rattle.chip.specs.declared.Drive.TheVariants.{Low}
-use Rattle.chip.specs.declared.Cycle.TheVariants.{Idle}
 use Rattle.chip.specs.declared.Act.{Act}
 use Rattle.chip.specs.declared.Act.TheVariants.{Nothing, Put, Program}
 use Rattle.chip.specs.Head.{at, silent}
@@ -130,10 +129,10 @@ kept d (b ∷ bs) = let p = bit_kept d b in let q = kept (bit_to d b) bs in reco
 
 -- ---- a device in which a Null begins no cycle
 pub record NotReady (d : Device) : Type 0 where
-  pub undue : due d.stage ≡ Idle
-  pub idle : running d.stage ≡ Idle
+  pub undue : due d.stage ≡ None
+  pub idle : running d.stage ≡ None
 
-pub not_ready : (d : Device) (s : Stage) → d.stage ≡ s → due s ≡ Idle → running s ≡ Idle → NotReady d
+pub not_ready : (d : Device) (s : Stage) → d.stage ≡ s → due s ≡ None → running s ≡ None → NotReady d
 not_ready d s e u i = record { undue = ap due e ∙ u; idle = ap running e ∙ i }
 
 -- standby and a byte that is put out last to the next Null or Wait
@@ -179,8 +178,8 @@ quiet d (b ∷ bs) q = quiet (bit_to d b) bs (quiet_bit d (head_of d) d.stage b 
 -- ---- a stage that takes a byte: `count` bits came, `byte` is their value
 pub record Takes (stage : ℕ → ℕ → Stage) : Type 0 where
   pub shifts : (h : Head) (n x b : ℕ) → ltb n 8 ≡ true → framed h (stage n x) b ≡ silent h (stage (n + 1) (more_of x b))
-  pub undue : (n x : ℕ) → eqb n 0 ≡ false → due (stage n x) ≡ Idle
-  pub idle : (n x : ℕ) → running (stage n x) ≡ Idle
+  pub undue : (n x : ℕ) → eqb n 0 ≡ false → due (stage n x) ≡ None
+  pub idle : (n x : ℕ) → running (stage n x) ≡ None
 
 pub takes_address : Takes (λ n x. Address n x)
 takes_address = record { shifts = λ h n x b e. rw e refl; undue = λ n x e. refl; idle = λ n x. refl }
@@ -224,7 +223,7 @@ module _ {stage : ℕ → ℕ → Stage} (takes : Takes stage) (d : Device) wher
 -- ---- a list of bits, nine at a time
 pub data Nines : List ℕ → Type 0 where
   empty : Nines []
-  over : (bs : List ℕ) → 0 < length bs → length bs < 9 → bytes_of bs ≡ none → Nines bs
+  over : (bs : List ℕ) → 0 < length bs → length bs < 9 → bytes_of bs ≡ None → Nines bs
   nine : (a b c e f g h i j : ℕ) {rest : List ℕ} → Nines rest → Nines (a ∷ b ∷ c ∷ e ∷ f ∷ g ∷ h ∷ i ∷ j ∷ rest)
 
 pub nines : (bs : List ℕ) → Nines bs

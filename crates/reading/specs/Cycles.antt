@@ -1,6 +1,5 @@
 -- The cycles of a list of events: which begin and how they end, and what they leave stored.
-use Rattle.std.specs.Prelude.{ℕ, suc, ◌+◌, ◌*◌, ◌/◌, ◌%◌, Bool, true, false, List, [], ◌∷◌, ◌++◌, map, eqb, get_or, set}
-use Rattle.std.proofs.Math.Option.{Option, some, none}
+use Rattle.std.specs.Prelude.{ℕ, suc, ◌+◌, ◌*◌, ◌/◌, ◌%◌, Bool, true, false, List, [], ◌∷◌, ◌++◌, map, eqb, get_or, set, Option, Some, None}
 use Rattle.bits.specs.Words.{pick}
 use Rattle.bits.specs.Bytes.{with_flag, mask_byte, merged}
 use Rattle.chip.specs.declared.Region.{Region}
@@ -116,8 +115,8 @@ abbrev pub now : Reading → Stored
 now r = after_all r.loaded r.done
 
 abbrev pub is_some : Option Begun → Bool
-is_some none = false
-is_some (some b) = true
+is_some None = false
+is_some (Some b) = true
 
 abbrev pub is_running : Reading → Bool
 is_running r = is_some r.running
@@ -129,18 +128,18 @@ any_runs (r ∷ rs) = pick (is_running r) true (any_runs rs)
 
 -- ---- a Null or Wait, number n
 abbrev pub begin_at : ℕ → Option Deed → Option Begun
-begin_at n none = none
-begin_at n (some d) = some (record { begin = n; deed = d })
+begin_at n None = None
+begin_at n (Some d) = Some (record { begin = n; deed = d })
 
 -- what begins there: with "no cycle running on the wire", what the stretch asks for
 abbrev pub begins : ℕ → Bool → Option (List ℕ) → Stored → Option Begun
-begins n true stretch s = none
-begins n false none s = none
-begins n false (some bits) s = begin_at n (sentence s bits)
+begins n true stretch s = None
+begins n false None s = None
+begins n false (Some bits) s = begin_at n (sentence s bits)
 
 abbrev pub or_else : Option Begun → Option Begun → Option Begun
-or_else (some b) next = some b
-or_else none next = next
+or_else (Some b) next = Some b
+or_else None next = next
 
 -- "Null then changes nothing in that device"
 abbrev pub nulled : ℕ → Bool → Option (List ℕ) → Reading → Reading
@@ -148,11 +147,11 @@ nulled n busy stretch r = record { loaded = r.loaded; done = r.done; running = o
 
 -- ---- the end of the cycle that runs, if one does
 abbrev pub closing : Option Begun → Ending → List Cycle
-closing none e = []
-closing (some b) e = record { begin = b.begin; deed = b.deed; ended = e } ∷ []
+closing None e = []
+closing (Some b) e = record { begin = b.begin; deed = b.deed; ended = e } ∷ []
 
 abbrev pub closed : Ending → Reading → Reading
-closed e r = record { loaded = r.loaded; done = r.done ++ closing r.running e; running = none }
+closed e r = record { loaded = r.loaded; done = r.done ++ closing r.running e; running = None }
 
 -- ---- event number n for one device: "Wait: a Null, then high until any cycle ends"
 unfoldable pub read_on : ℕ → Bool → Option (List ℕ) → Event → Reading → Reading
@@ -179,11 +178,11 @@ read_from n stretch rs [] = rs
 read_from n stretch rs (ev ∷ evs) = read_from (suc n) (stretch_after stretch ev) (all_on n (any_runs rs) stretch ev rs) evs
 
 abbrev pub fresh : Stored → Reading
-fresh s = record { loaded = s; done = []; running = none }
+fresh s = record { loaded = s; done = []; running = None }
 
 -- the reading of an event list on loaded devices
 abbrev pub reading_of : List Stored → List Event → List Reading
-reading_of ss evs = read_from 0 none (map fresh ss) evs
+reading_of ss evs = read_from 0 None (map fresh ss) evs
 
 -- a device's cycles in their order; one that still runs is the last
 abbrev pub cycles_of : Reading → List Cycle

@@ -1,10 +1,7 @@
 -- The writing grammar: which bytes are a sentence for a device, and what they ask of it.
-use Rattle.std.specs.Prelude.{ℕ, ◌/◌, Bool, false, List, [], ◌∷◌, eqb, ltb}
-use Rattle.std.proofs.Math.Option.{Option, some, none}
+use Rattle.std.specs.Prelude.{ℕ, ◌/◌, Bool, false, List, [], ◌∷◌, eqb, ltb, Option, Some, None}
 use Rattle.bits.specs.Words.{pick, both, is_not}
 use Rattle.bits.specs.Bytes.{opcode_of, slave_of, read_of, main_address, security_address, zone_of, has_flag}
-use Rattle.bits.specs.declared.Selector.{Selector}
-use Rattle.bits.specs.declared.Selector.TheVariants.{Unset, Zone}
 use Rattle.chip.specs.declared.Region.{Region}
 use Rattle.chip.specs.declared.Region.TheVariants.{Main, Security}
 use Rattle.chip.specs.declared.Opcode.{Opcode}
@@ -59,49 +56,49 @@ start_in Security a = security_address a
 -- ---- the bytes after the device address byte: "address byte; data bytes"
 -- "Ah and Bh: one or more data bytes"
 unfoldable pub write_of : Stored → Region → List ℕ → Option Deed
-write_of s r [] = none
-write_of s r (a ∷ []) = none
-write_of s r (a ∷ x ∷ xs) = pick (permits s r (start_in r a)) (some (page (record { region = r; start = start_in r a; bytes = x ∷ xs }))) none
+write_of s r [] = None
+write_of s r (a ∷ []) = None
+write_of s r (a ∷ x ∷ xs) = pick (permits s r (start_in r a)) (Some (page (record { region = r; start = start_in r a; bytes = x ∷ xs }))) None
 
 -- "2h, 7h, 1h: one"
 unfoldable pub pair_of : (ℕ → ℕ → Option Deed) → List ℕ → Option Deed
-pair_of rule [] = none
-pair_of rule (a ∷ []) = none
+pair_of rule [] = None
+pair_of rule (a ∷ []) = None
 pair_of rule (a ∷ x ∷ []) = rule a x
-pair_of rule (a ∷ x ∷ y ∷ ys) = none
+pair_of rule (a ∷ x ∷ y ∷ ys) = None
 
 -- 2h: "the next byte must be 0110 in its high four bits and the register unlocked"; "one data byte, whatever its value, is answered"
 abbrev pub lock_of : Stored → ℕ → ℕ → Option Deed
-lock_of s a x = pick (both (eqb (a / 16) 6) (is_not (locked s))) (some locks) none
+lock_of s a x = pick (both (eqb (a / 16) 6) (is_not (locked s))) (Some locks) None
 
 -- 7h: "answered if exactly one of its four low bits is set, and that bit's place becomes the selector"; "one data byte, answered only if FFh and not
 -- frozen. A zone that is already ROM stays so, with a cycle."
-abbrev pub rom_of : Stored → Selector → ℕ → Option Deed
-rom_of s Unset x = none
-rom_of s (Zone z) x = pick (both (eqb x 0xFF) (is_not (frozen s))) (some (makes_rom z)) none
+abbrev pub rom_of : Stored → Option ℕ → ℕ → Option Deed
+rom_of s None x = None
+rom_of s (Some z) x = pick (both (eqb x 0xFF) (is_not (frozen s))) (Some (makes_rom z)) None
 
 -- 1h: "the device address is answered if not frozen. With R/W 0: 55h, then AAh; any other byte is not answered."
 abbrev pub freeze_of : Stored → ℕ → ℕ → Option Deed
-freeze_of s a x = pick (both (is_not (frozen s)) (both (eqb a 0x55) (eqb x 0xAA))) (some freezes) none
+freeze_of s a x = pick (both (is_not (frozen s)) (both (eqb a 0x55) (eqb x 0xAA))) (Some freezes) None
 
 abbrev pub deed_of : Stored → Opcode → List ℕ → Option Deed
 deed_of s (Access r) xs = write_of s r xs
 deed_of s LockRegister xs = pair_of (lock_of s) xs
 deed_of s ZoneRegister xs = pair_of (λ a x. rom_of s (zone_of a) x) xs
 deed_of s FreezeZones xs = pair_of (freeze_of s) xs
-deed_of s ManufacturerId xs = none
-deed_of s StandardSpeed xs = none
-deed_of s HighSpeed xs = none
-deed_of s Unknown xs = none
+deed_of s ManufacturerId xs = None
+deed_of s StandardSpeed xs = None
+deed_of s HighSpeed xs = None
+deed_of s Unknown xs = None
 
 -- ---- "A sentence is: device address byte with R/W 0 and the device's address; address byte; data bytes"
 unfoldable pub sentence_of : Stored → List ℕ → Option Deed
-sentence_of s [] = none
-sentence_of s (x ∷ xs) = pick (both (eqb (slave_of x) s.slave) (is_not (read_of x))) (deed_of s (named (opcode_of x)) xs) none
+sentence_of s [] = None
+sentence_of s (x ∷ xs) = pick (both (eqb (slave_of x) s.slave) (is_not (read_of x))) (deed_of s (named (opcode_of x)) xs) None
 
 abbrev pub in_bytes : Stored → Option (List ℕ) → Option Deed
-in_bytes s none = none
-in_bytes s (some xs) = sentence_of s xs
+in_bytes s None = None
+in_bytes s (Some xs) = sentence_of s xs
 
 -- what the bits of a stretch ask of a device; none if they form no sentence for it, or its permissions do not allow it
 unfoldable pub sentence : Stored → List ℕ → Option Deed

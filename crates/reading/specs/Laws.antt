@@ -1,6 +1,5 @@
 -- What follows from the reading's definitions alone, and what its demand says of one event more.
-use Rattle.std.specs.Prelude.{ℕ, ◌+◌, ◌*◌, ◌/◌, ◌%◌, ◌≤◌, ◌<◌, ◌≡◌, Bool, List, [], ◌∷◌, ◌++◌, map, length, get_or}
-use Rattle.std.proofs.Math.Option.{Option, some, none}
+use Rattle.std.specs.Prelude.{ℕ, ◌+◌, ◌*◌, ◌/◌, ◌%◌, ◌≤◌, ◌<◌, ◌≡◌, Bool, List, [], ◌∷◌, ◌++◌, map, length, get_or, Option, Some, None}
 use Rattle.bits.specs.Bytes.{bit_at}
 use Rattle.chip.specs.declared.Device.{Device}
 use Rattle.chip.specs.declared.Event.{Event}
@@ -21,14 +20,14 @@ address_of start n = start / 8 * 8 + (start % 8 + n) % 8
 
 -- what is stored once a cycle, if there is one, has ended
 abbrev pub ended_by : Ending → Option Begun → Stored → Stored
-ended_by e none s = s
-ended_by e (some b) s = effect s b.deed e
+ended_by e None s = s
+ended_by e (Some b) s = effect s b.deed e
 
 pub record Laws : Type 0 where
   -- nine frames are one byte, whatever the ninth is
   pub nine_frames : (x answer : ℕ) (rest : List ℕ) → x < 256 → bytes_of (frames_of x answer rest) ≡ before x (bytes_of rest)
   -- a bit too many or too few, and nothing begins
-  pub torn : (s : Stored) (bits : List ℕ) → (length bits % 9 ≡ 0 → ⊥) → sentence s bits ≡ none
+  pub torn : (s : Stored) (bits : List ℕ) → (length bits % 9 ≡ 0 → ⊥) → sentence s bits ≡ None
   -- a region of so many pages: the cell that byte n went to holds it, if none of the later ones went there (they do every eight bytes)
   pub last_byte : (pages start : ℕ) (old bytes : List ℕ) (n : ℕ) → n < length bytes → length bytes ≤ n + 8 → address_of start n % (pages * 8) < length old
       → get_or (changed replaced (pages * 8) old (cells_of start bytes)) (address_of start n % (pages * 8)) 0 ≡ get_or bytes n 0
@@ -40,10 +39,10 @@ pub record Laws : Type 0 where
   pub other_cells : (how : ℕ → ℕ → ℕ → ℕ) (size start : ℕ) (old bytes : List ℕ) (i : ℕ) → ((n : ℕ) → n < length bytes → address_of start n % size ≡ i → ⊥)
       → get_or (changed how size old (cells_of start bytes)) i 0 ≡ get_or old i 0
   -- a stretch is a sentence for devices of one slave address only
-  pub one_slave : (s s' : Stored) (bits : List ℕ) (d d' : Deed) → sentence s bits ≡ some d → sentence s' bits ≡ some d' → s.slave ≡ s'.slave
+  pub one_slave : (s s' : Stored) (bits : List ℕ) (d d' : Deed) → sentence s bits ≡ Some d → sentence s' bits ≡ Some d' → s.slave ≡ s'.slave
   -- so two devices that begin at one event were loaded with the same slave address
   pub one_begins : (n : ℕ) (busy : Bool) (stretch : Option (List ℕ)) (r r' : Reading) (b b' : Begun)
-      → begins n busy stretch (now r) ≡ some b → begins n busy stretch (now r') ≡ some b' → r.loaded.slave ≡ r'.loaded.slave
+      → begins n busy stretch (now r) ≡ Some b → begins n busy stretch (now r') ≡ Some b' → r.loaded.slave ≡ r'.loaded.slave
   -- one event more: it is read by the stretch of the events before it and the cycles that run then
   pub next_event : (ss : List Stored) (past : List Event) (ev : Event)
       → reading_of ss (past ++ (ev ∷ [])) ≡ all_on (length past) (any_runs (reading_of ss past)) (stretch_of past) ev (reading_of ss past)

@@ -1,14 +1,13 @@
 -- A run of an event file over a bus file, and a load, a step for each event over the loaded devices, and a save: what the one promises is what the other does.
-use Rattle.std.specs.Prelude.{ℕ, ◌≡◌, List, map, length}
+use Rattle.std.specs.Prelude.{ℕ, ◌≡◌, List, map, length, Result, Ok}
 use Rattle.std.proofs.lemmas.List.Edits.{sets}
+use Rattle.faults.specs.declared.Refusal.{Refusal}
+use Rattle.faults.specs.Faults.{number_in}
 use Rattle.tape.specs.Tape.{events_of}
 use Rattle.tape.specs.Promises.{Bytes}
 use Rattle.wire.specs.Promises.{count80}
 use Rattle.image.specs.Image.{devices_of}
 use Rattle.chip.specs.declared.Device.{Device}
-use Rattle.lent.specs.declared.Stepped.{Stepped}
-use Rattle.lent.specs.declared.Stepped.TheVariants.{Answer}
-use Rattle.lent.specs.declared.Saved.TheVariants.{Done}
 use Rattle.lent.specs.Step.{answer_byte_of}
 use Rattle.lent.specs.Save.{save_answer, saved_room}
 use Rattle.lent.specs.Road.{steps_of, step_answers}
@@ -18,7 +17,7 @@ use Rattle.bus.specs.Run.{event_count_of, refused_count_of, run_fault, ran_of, b
 abbrev pub devices_after : List ℕ → List ℕ → List Device
 devices_after bus tape = steps_of (devices_of bus) (events_of tape)
 
-abbrev pub answers_to : List ℕ → List ℕ → List Stepped
+abbrev pub answers_to : List ℕ → List ℕ → List (Result ℕ Refusal)
 answers_to bus tape = step_answers (devices_of bus) (events_of tape)
 
 abbrev pub bytes_to : List ℕ → List ℕ → List ℕ
@@ -26,8 +25,8 @@ bytes_to bus tape = map answer_byte_of (answers_to bus tape)
 
 pub record Same (bus tape answers : List ℕ) : Type 0 where
   -- no step is refused, nor is the save into the bus file's own bytes
-  pub steps_done : answers_to bus tape ≡ map Answer (bytes_to bus tape)
-  pub save_done : save_answer (devices_after bus tape) (length bus) ≡ Done
+  pub steps_done : answers_to bus tape ≡ map Ok (bytes_to bus tape)
+  pub save_done : save_answer (devices_after bus tape) (length bus) ≡ Ok tt
   -- "A run writes one answer byte per event, leaves the rest of the room"
   pub answers_are : answers_after bus tape answers ≡ sets answers 0 (bytes_to bus tape)
   -- "saves the stored fields into the bus file"
@@ -38,4 +37,4 @@ pub record Same (bus tape answers : List ℕ) : Type 0 where
 
 -- for every bus file, event file and room that a run does not refuse
 pub record Roads : Type 0 where
-  pub same : (bus tape answers : List ℕ) → Bytes tape → (run_fault bus tape (length answers)).number ≡ 0 → Same bus tape answers
+  pub same : (bus tape answers : List ℕ) → Bytes tape → number_in (run_fault bus tape (length answers)) ≡ 0 → Same bus tape answers

@@ -1,79 +1,66 @@
 // A bench with one device: it plays a script and writes each act with what came back.
 use crate::device::Part;
 use crate::script::{Act, Mode};
-use crate::{device, script, text, wire};
-use chip::{Device, Event, Region};
+use crate::text::say;
+use crate::wire::{self, Got};
+use chip::{Device, Event, Region, Taken};
 
-fn sends(rt: &impl Print, d: Device, byte: u8) -> Device {
-    let t = wire::sends(d, byte);
-    text::letter(rt, b' ');
-    text::exchange(rt, byte, t.level);
-    t.device
+#[derive(Drop)]
+struct Bench<'a, R> {
+    rt: &'a R,
+    device: Device,
 }
 
-fn reads(rt: &impl Print, d: Device, ninth: u8) -> Device {
-    let g = wire::gets(d);
-    text::write(rt, b" <");
-    text::exchange(rt, g.byte, ninth);
-    wire::after(g.device, Event::Bit(ninth))
-}
+impl<R: Print> Bench<'_, R> {
+    fn sends(&mut self, byte: u8) {
+        let Taken { device, level } = wire::sends(self.device, byte);
+        self.device = device;
+        say!(self.rt; " {byte:02X}:{level}");
+    }
 
-// What stands for an event: its letter, with the mask of a Cut and the level of the discovery response.
-fn names(rt: &impl Print, ev: Event, level: u8) {
-    match ev {
-        Event::Bit(b) => text::bit(rt, b),
-        Event::Null => text::write(rt, b" N"),
-        Event::Wait => text::write(rt, b" W"),
-        Event::Reset => {
-            text::write(rt, b" R:");
-            text::bit(rt, level);
-        }
-        Event::Cut(mask) => {
-            text::write(rt, b" C(");
-            text::mask(rt, mask);
-            text::write(rt, b"):");
-            text::bit(rt, level);
+    fn reads(&mut self, ninth: u8) {
+        let Got { device, byte } = wire::gets(self.device);
+        self.device = wire::after(device, Event::Bit(ninth));
+        say!(self.rt; " <{byte:02X}:{ninth}");
+    }
+
+    // An event is written as its letter, with the mask of a Cut and the level of the discovery response.
+    fn takes(&mut self, ev: Event) {
+        let level = self.device.takes(ev);
+        match ev {
+            Event::Bit(b) => say!(self.rt; "{}", b % 2),
+            Event::Null => say!(self.rt; " N"),
+            Event::Wait => say!(self.rt; " W"),
+            Event::Reset => say!(self.rt; " R:{level}"),
+            Event::Cut(mask) => say!(self.rt; " C({mask:016X}):{level}"),
         }
     }
-}
 
-fn takes(rt: &impl Print, d: Device, ev: Event) -> Device {
-    let t = d.take(ev);
-    names(rt, ev, t.level);
-    t.device
-}
+    fn looks(&self, address: u8) {
+        let cell = self.device.cell(Region::Main, address);
+        say!(self.rt; " ?{address:02X}={cell:02X}");
+    }
 
-fn looks(rt: &impl Print, d: Device, address: u8) {
-    text::write(rt, b" ?");
-    text::byte(rt, address);
-    text::letter(rt, b'=');
-    text::byte(rt, d.cell(Region::Main, address));
-}
-
-fn acts(rt: &impl Print, d: Device, a: Act) -> Device {
-    match a {
-        Act::Nothing => d,
-        Act::Copy(c) => {
-            text::letter(rt, c);
-            d
-        }
-        Act::Send(byte) => sends(rt, d, byte),
-        Act::Read(ninth) => reads(rt, d, ninth),
-        Act::Take(ev) => takes(rt, d, ev),
-        Act::Look(address) => {
-            looks(rt, d, address);
-            d
+    fn acts(&mut self, a: Act) {
+        match a {
+            Act::Copy(c) => say!(self.rt; "{}", c as char),
+            Act::Send(byte) => self.sends(byte),
+            Act::Read(ninth) => self.reads(ninth),
+            Act::Take(ev) => self.takes(ev),
+            Act::Look(address) => self.looks(address),
         }
     }
 }
 
 pub fn plays(rt: &impl Print, part: Part, letters: &[u8]) {
-    let mut d = device::new(part);
-    let mut m = Mode::Words;
-    let mut i = 0;
-    while i < letters.len() {
-        d = acts(rt, d, script::act_at(m, letters[i]));
-        m = script::mode_after(m, letters[i]);
-        i += 1;
+    let device = part.delivered();
+    let mut bench = Bench { rt, device };
+    let mut mode = Mode::Words;
+    for letter in letters {
+        let (next, act) = mode.step(*letter);
+        if let Some(a) = act {
+            bench.acts(a);
+        }
+        mode = next;
     }
 }

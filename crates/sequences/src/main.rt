@@ -16,16 +16,15 @@ mod wire;
 mod writing;
 mod zones;
 
+use text::say;
+
 fn main(rt: HostRuntime) {
     trace::example(&rt);
-    text::write(
-        &rt,
-        b"
+    say!(rt; "
 N Null, W Wait, R:p Reset, C(mask):p Cut, p the level of the discovery response
 A0:0 a byte sent and its answer, <5C:1 a byte read and the master's ninth bit
 ?30=FF what a cell holds, not over the wire
-",
-    );
+");
     writing::plays(&rt);
     abandoned::plays(&rt);
     security::plays(&rt);

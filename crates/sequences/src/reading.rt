@@ -1,6 +1,7 @@
 // 003, sections 7.1 to 7.3 and 7.5: reads of the main array, and the manufacturer ID.
+use crate::bench;
 use crate::device::Part;
-use crate::{bench, text};
+use crate::text::say;
 
 fn main_array(rt: &impl Print) {
     bench::plays(
@@ -33,8 +34,8 @@ fn manufacturer_id(rt: &impl Print, part: Part) {
 
 pub fn plays(rt: &impl Print) {
     main_array(rt);
-    text::write(rt, b"\nManufacturer ID, AT21CS01\n");
+    say!(rt; "\nManufacturer ID, AT21CS01\n");
     manufacturer_id(rt, Part::At21cs01);
-    text::write(rt, b"\nManufacturer ID, AT21CS11\n");
+    say!(rt; "\nManufacturer ID, AT21CS11\n");
     manufacturer_id(rt, Part::At21cs11);
 }

@@ -19,7 +19,6 @@ pub enum Mode {
 // What a letter asks for.
 #[derive(Clone, Copy)]
 pub enum Act {
-    Nothing,
     Copy(u8),
     Send(u8),
     // with the master's ninth bit
@@ -28,105 +27,51 @@ pub enum Act {
     Look(u8),
 }
 
-const NO_DIGIT: u8 = 16;
-
 // What a digit 0 to 9 or A to F stands for.
-fn value(c: u8) -> u8 {
-    if c < b'0' {
-        return NO_DIGIT;
-    }
-    if c <= b'9' {
-        return c - b'0';
-    }
-    if c < b'A' {
-        return NO_DIGIT;
-    }
-    if c <= b'F' {
-        return c - b'A' + 10;
-    }
-    NO_DIGIT
-}
-
-fn mode_after_act(c: u8) -> Mode {
-    if c == b'\n' {
-        return Mode::Words;
-    }
-    if c == b'(' {
-        return Mode::Mask(0);
-    }
-    if c == b'?' {
-        return Mode::Cell;
-    }
-    let v = value(c);
-    if v < NO_DIGIT {
-        return Mode::Byte(v);
-    }
-    Mode::Acts
-}
-
-fn wide(x: u8) -> u64 {
-    x as u64
-}
-
-pub fn mode_after(m: Mode, c: u8) -> Mode {
-    match m {
-        Mode::Words => {
-            if c == b':' {
-                return Mode::Acts;
-            }
-            Mode::Words
-        }
-        Mode::Acts => mode_after_act(c),
-        Mode::Byte(_) => Mode::Acts,
-        Mode::Mask(mask) => {
-            if c == b')' {
-                return Mode::Acts;
-            }
-            Mode::Mask(mask % 0x1000_0000_0000_0000 * 16 + wide(value(c)) % 16)
-        }
-        Mode::Cell => Mode::CellByte(value(c)),
-        Mode::CellByte(_) => Mode::Acts,
+fn value(c: u8) -> Option<u8> {
+    match c {
+        b'0'..=b'9' => Some(c - b'0'),
+        b'A'..=b'F' => Some(c - b'A' + 10),
+        _ => None,
     }
 }
 
-fn act_alone(c: u8) -> Act {
-    if c == b'\n' {
-        return Act::Copy(c);
-    }
-    if c == b'N' {
-        return Act::Take(Event::Null);
-    }
-    if c == b'W' {
-        return Act::Take(Event::Wait);
-    }
-    if c == b'R' {
-        return Act::Take(Event::Reset);
-    }
-    if c == b'+' {
-        return Act::Read(0);
-    }
-    if c == b'-' {
-        return Act::Read(1);
-    }
-    Act::Nothing
+// A letter that is no digit counts as 0 where one is due.
+fn digit(c: u8) -> u8 {
+    value(c).unwrap_or(0)
 }
 
 fn byte_of(high: u8, c: u8) -> u8 {
-    high % 16 * 16 + value(c) % 16
+    high << 4 | digit(c)
 }
 
-pub fn act_at(m: Mode, c: u8) -> Act {
-    match m {
-        Mode::Words => Act::Copy(c),
-        Mode::Acts => act_alone(c),
-        Mode::Byte(high) => Act::Send(byte_of(high, c)),
-        Mode::Mask(mask) => {
-            if c == b')' {
-                return Act::Take(Event::Cut(mask));
-            }
-            Act::Nothing
+// A letter among the acts, with nothing begun before it.
+fn begins(c: u8) -> (Mode, Option<Act>) {
+    match c {
+        b'\n' => (Mode::Words, Some(Act::Copy(c))),
+        b'N' => (Mode::Acts, Some(Act::Take(Event::Null))),
+        b'W' => (Mode::Acts, Some(Act::Take(Event::Wait))),
+        b'R' => (Mode::Acts, Some(Act::Take(Event::Reset))),
+        b'+' => (Mode::Acts, Some(Act::Read(0))),
+        b'-' => (Mode::Acts, Some(Act::Read(1))),
+        b'(' => (Mode::Mask(0), None),
+        b'?' => (Mode::Cell, None),
+        _ => (value(c).map_or(Mode::Acts, Mode::Byte), None),
+    }
+}
+
+impl Mode {
+    // The mode after a letter, and what the letter asks for.
+    pub fn step(self, c: u8) -> (Mode, Option<Act>) {
+        match self {
+            Mode::Words if c == b':' => (Mode::Acts, Some(Act::Copy(c))),
+            Mode::Words => (Mode::Words, Some(Act::Copy(c))),
+            Mode::Acts => begins(c),
+            Mode::Byte(high) => (Mode::Acts, Some(Act::Send(byte_of(high, c)))),
+            Mode::Mask(mask) if c == b')' => (Mode::Acts, Some(Act::Take(Event::Cut(mask)))),
+            Mode::Mask(mask) => (Mode::Mask(mask << 4 | u64::from(digit(c))), None),
+            Mode::Cell => (Mode::CellByte(digit(c)), None),
+            Mode::CellByte(high) => (Mode::Acts, Some(Act::Look(byte_of(high, c)))),
         }
-        Mode::Cell => Act::Nothing,
-        Mode::CellByte(high) => Act::Look(byte_of(high, c)),
     }
 }

@@ -1,25 +1,23 @@
 // 003, sections 6.4, 6.5 and 7.4: the Security Register, its serial number and its lock.
 use crate::device::Part;
-use crate::{bench, device, text, wire};
+use crate::text::say;
+use crate::{bench, wire};
 
 const ADDRESSES: u8 = 32;
 
 // The answer to a data byte at an address.
 fn answer_at(address: u8) -> u8 {
-    let d = wire::started(device::new(Part::At21cs01));
+    let d = wire::started(Part::At21cs01.delivered());
     let a = wire::passes(wire::passes(d, 0xB0), address);
-    let t = wire::sends(a, 0x77);
-    t.level
+    wire::sends(a, 0x77).level
 }
 
 fn answers(rt: &impl Print) {
-    text::write(rt, b"6.4 answers to data at 00h to 1Fh: ");
-    let mut address = 0;
-    while address < ADDRESSES {
-        text::bit(rt, answer_at(address));
-        address += 1;
+    say!(rt; "6.4 answers to data at 00h to 1Fh: ");
+    for address in 0..ADDRESSES {
+        say!(rt; "{}", answer_at(address));
     }
-    text::letter(rt, b'\n');
+    say!(rt; "\n");
 }
 
 fn register(rt: &impl Print) {

@@ -1,6 +1,7 @@
 // 003, section 6.6: the speeds, set with R/W 0 and asked with R/W 1. Part 11h has no standard speed.
+use crate::bench;
 use crate::device::Part;
-use crate::{bench, text};
+use crate::text::say;
 
 fn speeds(rt: &impl Print, part: Part) {
     bench::plays(
@@ -14,8 +15,8 @@ fn speeds(rt: &impl Print, part: Part) {
 }
 
 pub fn plays(rt: &impl Print) {
-    text::write(rt, b"\nSpeed, AT21CS01\n");
+    say!(rt; "\nSpeed, AT21CS01\n");
     speeds(rt, Part::At21cs01);
-    text::write(rt, b"\nSpeed, AT21CS11\n");
+    say!(rt; "\nSpeed, AT21CS11\n");
     speeds(rt, Part::At21cs11);
 }

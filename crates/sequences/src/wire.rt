@@ -16,8 +16,7 @@ pub struct Got {
 pub fn after(d: Device, ev: Event) -> Device
     ensures { result ≡ (take_of d ev).device }
 {
-    let t = d.take(ev);
-    t.device
+    d.take(ev).device
 }
 
 // A Null: Start or Stop.
@@ -28,14 +27,13 @@ pub fn started(d: Device) -> Device
 }
 
 // The eight bit frames of a byte.
+#[tactic(auto, unfolding(crate::specs::Wire::sent_to))]
 fn frames(d: Device, byte: u8) -> Device
     ensures { result ≡ sent_to 8 d byte }
 {
     let mut e = d;
-    let mut k: u8 = 0;
-    while k < 8 {
+    for k in 0..8u8 {
         e = after(e, Event::Bit(bits::bit_at(byte, k)));
-        k += 1;
     }
     e
 }
@@ -51,8 +49,7 @@ pub fn sends(d: Device, byte: u8) -> Taken
 pub fn passes(d: Device, byte: u8) -> Device
     ensures { result ≡ (take_of (sent_to 8 d byte) (Bit 1)).device }
 {
-    let t = sends(d, byte);
-    t.device
+    sends(d, byte).device
 }
 
 // One frame of a byte that is read.
@@ -60,23 +57,20 @@ fn bit_more(d: Device, byte: u8) -> Got
     ensures { result ≡ got_with byte (take_of d (Bit 1)) }
 {
     let t = d.take(Event::Bit(1));
-    let e = t.device;
     Got {
-        device: e,
+        device: t.device,
         byte: bits::more(byte, t.level),
     }
 }
 
 // The eight frames that read a byte; the ninth is the master's.
+#[tactic(auto, unfolding(crate::specs::Wire::got_to))]
 pub fn gets(d: Device) -> Got
     ensures { result ≡ got_to 8 d }
 {
     let mut g = Got { device: d, byte: 0 };
-    let mut k: u8 = 0;
-    while k < 8 {
-        let e = g.device;
-        g = bit_more(e, g.byte);
-        k += 1;
+    for _k in 0..8u8 {
+        g = bit_more(g.device, g.byte);
     }
     g
 }

@@ -1,4 +1,5 @@
 -- Any event leaves a device as specs/WellFormed.antt asks: a Null or Wait by the cycle that is due, the end of a cycle by the one-way bits' places.
+use Rattle.std.specs.Prelude.{Option, Some, None}
 use Prim.Native.Nat.{ℕ, ◌+◌, ◌/◌, ◌%◌, ◌^◌, ◌<◌, ◌≤◌}
 use native.Mathlib.Omega.{arith}
 use mathlib.Core.Path.{◌≡◌, refl, sym, subst}
@@ -6,8 +7,6 @@ use mathlib.Core.Bool.{true, false}
 use borrow.Author.Tests.{eqb-false, lt-ltb}
 use lib.Dec.{eqb, leb}
 use Rattle.bits.specs.Bytes.{has_flag, with_flag, mask_byte}
-use Rattle.bits.specs.declared.Selector.{Selector}
-use Rattle.bits.specs.declared.Selector.TheVariants.{Unset, Zone}
 use Rattle.bits.proofs.Table.{All, each}
 use Rattle.chip.specs.declared.Device.{Device}
 use Rattle.chip.specs.declared.Head.{Head}
@@ -16,7 +15,6 @@ use Rattle.chip.specs.declared.Command.TheVariants.{Page, Lock, Check, Rom, Free
 use Rattle.chip.specs.declared.Stage.{Stage}
 use Rattle.chip.specs.declared.Stage.TheVariants.{Standby, Address, Place, Data, Sending, Programming}
 use Rattle.chip.specs.declared.Cycle.{Cycle}
-use Rattle.chip.specs.declared.Cycle.TheVariants.{Idle, Of}
 use Rattle.chip.specs.declared.Event.{Event}
 use Rattle.chip.specs.declared.Event.TheVariants.{Bit, Null, Wait, Reset, Cut}
 use Rattle.chip.specs.Cycle.{running, due, null_of, nulled, one_way, rom_bit, flags_after, whole, finished, reset_of, cut_of, heard}
@@ -45,9 +43,9 @@ flag_few f k h l =
 one_way_few : (f k m : ℕ) → f ≤ highest_flags → k < 6 → one_way f k m ≤ highest_flags
 one_way_few f k m h l = choice (λ (q : ℕ). q ≤ highest_flags) (eqb (mask_byte m 0 % 2) 1) (flag_few f k h l) h
 
-rom_few : (f : ℕ) (z : Selector) (m : ℕ) → f ≤ highest_flags → rom_bit f z m ≤ highest_flags
-rom_few f Unset m h = h
-rom_few f (Zone z) m h = one_way_few f (z % 4) m h (omega arith)
+rom_few : (f : ℕ) (z : Option ℕ) (m : ℕ) → f ≤ highest_flags → rom_bit f z m ≤ highest_flags
+rom_few f None m h = h
+rom_few f (Some z) m h = one_way_few f (z % 4) m h (omega arith)
 
 flags_few : (h : Head) (c : Command) (m : ℕ) → h.flags ≤ highest_flags → flags_after h c m ≤ highest_flags
 flags_few h (Page r) m l = l
@@ -86,27 +84,27 @@ module _ (h : Head) where
   good_null (Address n x) e g = starts g
   good_null (Place c n x) e g = starts g
   good_null (Data c t n x) e g =
-      choice (λ (d : Cycle). GoodHead (null_of h Idle d)) (eqb n 0)
-      (chosen (λ (d : Cycle). GoodHead (null_of h Idle d)) (eqb t 0) (λ a. starts g) (good_cycle c t n x g)) (starts g)
+      choice (λ (d : Option Cycle). GoodHead (null_of h None d)) (eqb n 0)
+      (chosen (λ (d : Option Cycle). GoodHead (null_of h None d)) (eqb t 0) (λ a. starts g) (good_cycle c t n x g)) (starts g)
   good_null (Sending s n) e g = starts g
   good_null (Programming c t) e g = rw e g
 
 -- ---- the end of a cycle, by itself or by a Reset or Cut
-good_finished : (h : Head) (r : Cycle) → GoodHead h → GoodHead (finished h r).head
-good_finished h Idle g = g
-good_finished h (Of c t) g =
-    record { flags = flags_few h c whole g.flags; pointer = in_range g; zone = g.zone; asked = refl; counts = refl; held = refl }
+good_finished : (h : Head) (r : Option Cycle) → GoodHead h → GoodHead (finished h r).head
+good_finished h None g = g
+good_finished h (Some r) g =
+    record { flags = flags_few h r.command whole g.flags; pointer = in_range g; zone = g.zone; asked = refl; counts = refl; held = refl }
 
-fresh : (f : ℕ) → f ≤ highest_flags → Good 0 Unset f Standby
+fresh : (f : ℕ) → f ≤ highest_flags → Good 0 None f Standby
 fresh f h = record { flags = h; pointer = omega arith; zone = refl; asked = refl; counts = refl; held = refl }
 
-good_reset : (h : Head) (r : Cycle) → GoodHead h → GoodHead (reset_of h r).head
-good_reset h Idle g = fresh h.flags g.flags
-good_reset h (Of c t) g = g
+good_reset : (h : Head) (r : Option Cycle) → GoodHead h → GoodHead (reset_of h r).head
+good_reset h None g = fresh h.flags g.flags
+good_reset h (Some r) g = g
 
-good_cut : (h : Head) (r : Cycle) (m : ℕ) → GoodHead h → GoodHead (cut_of h r m).head
-good_cut h Idle m g = fresh h.flags g.flags
-good_cut h (Of c t) m g = fresh (flags_after h c m) (flags_few h c m g.flags)
+good_cut : (h : Head) (r : Option Cycle) (m : ℕ) → GoodHead h → GoodHead (cut_of h r m).head
+good_cut h None m g = fresh h.flags g.flags
+good_cut h (Some r) m g = fresh (flags_after h r.command m) (flags_few h r.command m g.flags)
 
 -- ---- any event
 pub good_heard : (h : Head) (ev : Event) → GoodHead h → GoodHead (heard h ev).head

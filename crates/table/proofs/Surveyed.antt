@@ -2,6 +2,7 @@
 --     talks_none, talks_one, talks_cycle, talks_more       each case of `talks_of`
 --     seen_more, all_seen      what the pass has seen before turn i + 1, and after the last
 --     busy_is, well_is, verdict_is     what it says of a whole table
+use Rattle.std.specs.Prelude.{Option, Some, None}
 use Prim.Native.Nat.{ℕ, zero, suc, ◌+◌, ◌%◌, ◌<◌, ◌≤◌}
 use native.Mathlib.Omega.{arith}
 use native.Mathlib.Nat.{zero-add, not-suc-le-zero, le_of_suc-le-suc}
@@ -20,6 +21,7 @@ use Rattle.chip.specs.declared.Stage.TheVariants.{Standby, Address, Place, Data,
 use Rattle.chip.specs.Take.{head_of}
 use Rattle.wire.specs.Wire.{busy, any_busy}
 use Rattle.image.specs.Layout.{most_records}
+use Rattle.table.specs.declared.Bits.{Bits}
 use Rattle.table.specs.declared.Survey.{Survey}
 use Rattle.table.specs.declared.Verdict.{Verdict}
 use Rattle.table.specs.WellFormed.{good_load, good_loads, good_pointer, good_selector, good_counts, good_held, good_device, good_devices, is_past, is_hearing, is_started, is_programming, total, agree_from, all_same_as, same_bits, one_talks, well_formed}
@@ -85,27 +87,29 @@ unfolding seen_all seen any_busy
 seen_busy s [] = pick_last s.busy
 seen_busy s (d ∷ ds) = seen_busy (seen s (head_of d)) ds ∙ pick_mixed s.busy (busy d.stage) (any_busy ds)
 
--- ---- the same bits: what is left, when the first that reads its device address is `first`
-abbrev agreeing : Stage → List Device → Bool
-agreeing first ds = agree_from first ds (same_bits ds)
+-- ---- the same bits: what is left, with the bits of the first that reads its device address
+abbrev agreeing : Option Bits → List Device → Bool
+agreeing None ds = same_bits ds
+agreeing (Some b) ds = all_same_as b.count b.value ds
 
-agree_cons : (first : Stage) (d : Device) (ds : List Device) → agreeing first (d ∷ ds) ≡ both (same_with first d.stage) (agreeing (first_of first d.stage) ds)
+agree_none : (s : Stage) (ds : List Device) → agree_from s ds (same_bits ds) ≡ agreeing (first_of None s) ds
+unfolding first_of
+agree_none Standby ds = refl
+agree_none (Address n x) ds = refl
+agree_none (Place c n x) ds = refl
+agree_none (Data c t n x) ds = refl
+agree_none (Sending q n) ds = refl
+agree_none (Programming c t) ds = refl
+
+agree_cons : (first : Option Bits) (d : Device) (ds : List Device) → agreeing first (d ∷ ds) ≡ both (same_with first d.stage) (agreeing (first_of first d.stage) ds)
 unfolding same_bits all_same_as same_with first_of
-agree_cons Standby d ds = refl
-agree_cons (Address n x) d ds = refl
-agree_cons (Place c n x) d ds = refl
-agree_cons (Data c t n x) d ds = refl
-agree_cons (Sending q n) d ds = refl
-agree_cons (Programming c t) d ds = refl
+agree_cons None d ds = agree_none d.stage ds
+agree_cons (Some b) d ds = refl
 
-agree_nil : (first : Stage) → agreeing first [] ≡ true
+agree_nil : (first : Option Bits) → agreeing first [] ≡ true
 unfolding same_bits all_same_as
-agree_nil Standby = refl
-agree_nil (Address n x) = refl
-agree_nil (Place c n x) = refl
-agree_nil (Data c t n x) = refl
-agree_nil (Sending q n) = refl
-agree_nil (Programming c t) = refl
+agree_nil None = refl
+agree_nil (Some b) = refl
 
 seen_same : (s : Survey) (ds : List Device) → (seen_all s ds).same ≡ both s.same (agreeing s.first ds)
 unfolding seen_all seen

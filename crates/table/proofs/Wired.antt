@@ -1,5 +1,6 @@
 -- An event that is carried out takes the wire from one scene to the next; at the ninth frame of the device address slave addresses that rise let one device
 -- answer at most.
+use Rattle.std.specs.Prelude.{Option, Some, None}
 use Prim.Native.Nat.{ℕ, ◌+◌, ◌%◌, ◌<◌}
 use native.Mathlib.Omega.{arith}
 use mathlib.Core.Path.{◌≡◌, refl, sym, ap, subst, ◌∙◌}
@@ -21,7 +22,6 @@ use Rattle.chip.specs.declared.Stage.TheVariants.{Standby, Address, Place, Data,
 use Rattle.chip.specs.declared.Opcode.{Opcode}
 use Rattle.chip.specs.declared.Opcode.TheVariants.{Access, LockRegister, ZoneRegister, FreezeZones, ManufacturerId, StandardSpeed, HighSpeed, Unknown}
 use Rattle.chip.specs.declared.Cycle.{Cycle}
-use Rattle.chip.specs.declared.Cycle.TheVariants.{Idle, Of}
 use Rattle.chip.specs.declared.Event.{Event}
 use Rattle.chip.specs.declared.Event.TheVariants.{Bit, Null, Wait, Reset, Cut}
 use Rattle.chip.specs.Stages.{named, opened, answers_address, answers_place, answers_data, caused_by_place, caused_by_data, next_byte, framed}
@@ -180,7 +180,7 @@ null_any h Standby e = waits
 null_any h (Address n x) e = waits
 null_any h (Place c n x) e = waits
 null_any h (Data c t n x) e =
-    choice (λ (d : Cycle). Nulled (null_of h Idle d).stage) (eqb n 0) (choice (λ (d : Cycle). Nulled (null_of h Idle d).stage) (eqb t 0) waits runs) waits
+    choice (λ (d : Option Cycle). Nulled (null_of h None d).stage) (eqb n 0) (choice (λ (d : Option Cycle). Nulled (null_of h None d).stage) (eqb t 0) waits runs) waits
 null_any h (Sending s n) e = waits
 null_any h (Programming c t) e = rw e runs
 
@@ -202,9 +202,9 @@ wait_ends h s e runs = begins
 wait_any : (h : Head) → Begins (finished (nulled h) (running (nulled h).stage)).head.stage
 wait_any h = wait_ends (nulled h) (nulled h).stage refl (null_any h h.stage refl)
 
-cut_any : (h : Head) (r : Cycle) (m : ℕ) → Rests (cut_of h r m).head.stage
-cut_any h Idle m = stands
-cut_any h (Of c t) m = stands
+cut_any : (h : Head) (r : Option Cycle) (m : ℕ) → Rests (cut_of h r m).head.stage
+cut_any h None m = stands
+cut_any h (Some r) m = stands
 
 reset_near : (h : Head) {n x : ℕ} {s : Stage} → Near n x s → Rests (reset_of h (running s)).head.stage
 reset_near h rests = stands

@@ -1,5 +1,5 @@
 -- This promises nothing by itself: it says how one pass over the heads of a table decides, for the contracts of the functions that `judge` calls.
-use Rattle.std.specs.Prelude.{ℕ, ◌+◌, ◌%◌, Bool, true, false, List, [], ◌∷◌, eqb, ltb}
+use Rattle.std.specs.Prelude.{ℕ, ◌+◌, ◌%◌, Bool, true, false, List, [], ◌∷◌, eqb, ltb, Option, Some, None}
 use Rattle.bits.specs.Words.{pick, both}
 use Rattle.chip.specs.declared.Device.{Device}
 use Rattle.chip.specs.declared.Head.{Head}
@@ -9,6 +9,7 @@ use Rattle.chip.specs.Take.{head_of, joined}
 use Rattle.image.specs.Layout.{most_records}
 use Rattle.image.specs.Image.{blank_device}
 use Rattle.wire.specs.Wire.{busy}
+use Rattle.table.specs.declared.Bits.{Bits}
 use Rattle.table.specs.declared.Survey.{Survey}
 use Rattle.table.specs.WellFormed.{good_load, good_device, is_past, is_hearing, is_started, is_programming, same_as}
 
@@ -21,26 +22,23 @@ bare h = joined h blank_device
 abbrev pub tally : ℕ → ℕ → ℕ
 tally n k = n % 16 + k % 2
 
--- a device and the first before it that reads its device address, if there is one
-unfoldable pub same_with : Stage → Stage → Bool
-same_with Standby s = true
-same_with (Address n x) s = same_as n x s
-same_with (Place c n x) s = true
-same_with (Data c t n x) s = true
-same_with (Sending q n) s = true
-same_with (Programming c t) s = true
+-- a device and the bits of the first before it that reads its device address, if there is one
+unfoldable pub same_with : Option Bits → Stage → Bool
+same_with None s = true
+same_with (Some b) s = same_as b.count b.value s
 
-unfoldable pub first_of : Stage → Stage → Stage
-first_of Standby s = s
-first_of (Address n x) s = Address n x
-first_of (Place c n x) s = s
-first_of (Data c t n x) s = s
-first_of (Sending q n) s = s
-first_of (Programming c t) s = s
+unfoldable pub first_of : Option Bits → Stage → Option Bits
+first_of (Some b) s = Some b
+first_of None Standby = None
+first_of None (Address n x) = Some (record { count = n; value = x })
+first_of None (Place c n x) = None
+first_of None (Data c t n x) = None
+first_of None (Sending q n) = None
+first_of None (Programming c t) = None
 
 -- ---- the pass: before the first, with one more, with all
 unfoldable pub unseen : Survey
-unseen = record { good = true; least = 0; past = 0; hearing = 0; started = 0; programming = 0; first = Standby; same = true; busy = false }
+unseen = record { good = true; least = 0; past = 0; hearing = 0; started = 0; programming = 0; first = None; same = true; busy = false }
 
 unfoldable pub seen : Survey → Head → Survey
 seen s h = record {

@@ -11,7 +11,14 @@ mod talk;
 ghost use Rattle.std.specs.Prelude.{◌≡◌};
 ghost use Rattle.table.specs.Verdict.{verdict_of};
 
-use chip::{Device, Stage};
+use chip::Device;
+
+// The bits of a device address so far: how many, and their value.
+#[derive(Clone, Copy)]
+pub struct Bits {
+    pub count: u8,
+    pub value: u8,
+}
 
 // What a pass over the heads has seen. The counts are exact below sixteen.
 #[derive(Clone, Copy)]
@@ -22,7 +29,8 @@ pub struct Survey {
     pub hearing: u8,
     pub started: u8,
     pub programming: u8,
-    pub first: Stage,
+    // of the first device that reads its device address, if one does
+    pub first: Option<Bits>,
     pub same: bool,
     pub busy: bool,
 }
@@ -34,18 +42,13 @@ pub struct Verdict {
     pub busy: bool,
 }
 
-// One pass over the heads of the lent devices, each read field by field where it lies.
+// One pass over the heads of the lent devices.
 pub fn judge(table: &[Device]) -> Verdict
     ensures { result ≡ verdict_of table.now }
 {
-    let mut s = Survey::none();
-    let mut i: usize = 0;
-    while i < table.len() {
-        let d = &table[i];
-        s = s.with(
-            d.part, d.slave, d.flags, d.pointer, d.speed, d.selector, d.stage,
-        );
-        i += 1;
+    let mut survey = Survey::none();
+    for device in table {
+        survey = survey.with(device.head());
     }
-    s.verdict(table.len())
+    survey.verdict(table.len())
 }

@@ -3,103 +3,68 @@ ghost use Rattle.std.specs.Prelude.{◌≡◌};
 ghost use Rattle.table.specs.WellFormed.{highest_in, highest_pointer, good_pointer, in_zones, asks_zone, past_zone_byte, good_selector, good_bits, most_taken, good_source, good_counts};
 ghost use Rattle.table.specs.Survey.{bare};
 
-use bits::Selector;
-use chip::{Command, Head, Region, Source, Stage};
+use chip::{Command, Head, LAST_ID, LAST_MAIN, LAST_SECURITY, Region, Source, Stage};
 use image::HIGHEST_ZONE;
 
-const HIGHEST: u8 = 127;
-
-const HIGHEST_SECURITY: u8 = 31;
-
 const BYTE_BITS: u8 = 8;
-
-const LAST_ID: u8 = 2;
 
 const PAGE_SIZE: u8 = 8;
 
 // ---- the pointer
-fn highest_in(c: Command) -> u8
-    ensures { result ≡ highest_in c }
+fn highest_in(command: Command) -> u8
+    ensures { result ≡ highest_in command }
 {
-    match c {
-        Command::Page(r) => match r {
-            Region::Main => HIGHEST,
-            Region::Security => HIGHEST_SECURITY,
-        },
-        Command::Lock => HIGHEST,
-        Command::Check => HIGHEST,
-        Command::Rom => HIGHEST,
-        Command::Freeze => HIGHEST,
+    match command {
+        Command::Page(Region::Security) => LAST_SECURITY,
+        Command::Page(Region::Main) => LAST_MAIN,
+        Command::Lock | Command::Check | Command::Rom | Command::Freeze => LAST_MAIN,
     }
 }
 
-fn highest_pointer(s: Stage) -> u8
-    ensures { result ≡ highest_pointer s }
+fn highest_pointer(stage: Stage) -> u8
+    ensures { result ≡ highest_pointer stage }
 {
-    match s {
-        Stage::Standby => HIGHEST,
-        Stage::Address(_, _) => HIGHEST,
-        Stage::Place(_, _, _) => HIGHEST,
-        Stage::Data(c, _, _, _) => highest_in(c),
-        Stage::Sending(_, _) => HIGHEST,
-        Stage::Programming(c, _) => highest_in(c),
+    match stage {
+        Stage::Data(command, _, _, _) | Stage::Programming(command, _) => highest_in(command),
+        _ => LAST_MAIN,
     }
 }
 
-pub fn good_pointer(h: Head) -> bool
-    ensures { result ≡ good_pointer (bare h) }
+pub fn good_pointer(head: Head) -> bool
+    ensures { result ≡ good_pointer (bare head) }
 {
-    let s = h.stage;
-    h.pointer <= highest_pointer(s)
+    head.pointer <= highest_pointer(head.stage)
 }
 
 // ---- the selector
-fn in_zones(z: Selector) -> bool
-    ensures { result ≡ in_zones z }
+fn in_zones(selector: Option<u8>) -> bool
+    ensures { result ≡ in_zones selector }
 {
-    match z {
-        Selector::Unset => true,
-        Selector::Zone(k) => k <= HIGHEST_ZONE,
+    match selector {
+        Some(zone) => zone <= HIGHEST_ZONE,
+        None => true,
     }
 }
 
-fn asks_zone(c: Command) -> bool
-    ensures { result ≡ asks_zone c }
+fn asks_zone(command: Command) -> bool
+    ensures { result ≡ asks_zone command }
 {
-    match c {
-        Command::Page(_) => false,
-        Command::Lock => false,
-        Command::Check => false,
-        Command::Rom => true,
-        Command::Freeze => false,
+    matches!(command, Command::Rom)
+}
+
+fn past_zone_byte(stage: Stage) -> bool
+    ensures { result ≡ past_zone_byte stage }
+{
+    match stage {
+        Stage::Data(command, _, _, _) | Stage::Programming(command, _) => asks_zone(command),
+        _ => false,
     }
 }
 
-fn past_zone_byte(s: Stage) -> bool
-    ensures { result ≡ past_zone_byte s }
+pub fn good_selector(head: Head) -> bool
+    ensures { result ≡ good_selector (bare head) }
 {
-    match s {
-        Stage::Standby => false,
-        Stage::Address(_, _) => false,
-        Stage::Place(_, _, _) => false,
-        Stage::Data(c, _, _, _) => asks_zone(c),
-        Stage::Sending(_, _) => false,
-        Stage::Programming(c, _) => asks_zone(c),
-    }
-}
-
-pub fn good_selector(h: Head) -> bool
-    ensures { result ≡ good_selector (bare h) }
-{
-    let z = h.selector;
-    let s = h.stage;
-    if in_zones(z) {
-        if past_zone_byte(s) {
-            return bits::is_set(z);
-        }
-        return true;
-    }
-    false
+    in_zones(head.selector) && (!past_zone_byte(head.stage) || head.selector.is_some())
 }
 
 // ---- the stage's counts
@@ -107,62 +72,37 @@ pub fn good_selector(h: Head) -> bool
 fn good_bits(n: u8, x: u8) -> bool
     ensures { result ≡ good_bits n x }
 {
-    if BYTE_BITS < n {
-        return false;
-    }
-    if n == BYTE_BITS {
-        return true;
-    }
-    x < 1 << n
+    n == BYTE_BITS || (n < BYTE_BITS && x < 1 << n)
 }
 
 // How many data bytes a command answers.
-fn most_taken(c: Command) -> u8
-    ensures { result ≡ most_taken c }
+fn most_taken(command: Command) -> u8
+    ensures { result ≡ most_taken command }
 {
-    match c {
+    match command {
         Command::Page(_) => PAGE_SIZE,
-        Command::Lock => 1,
         Command::Check => 0,
-        Command::Rom => 1,
-        Command::Freeze => 1,
+        Command::Lock | Command::Rom | Command::Freeze => 1,
     }
 }
 
-fn good_source(s: Source) -> bool
-    ensures { result ≡ good_source s }
+fn good_source(source: Source) -> bool
+    ensures { result ≡ good_source source }
 {
-    match s {
-        Source::Cells(_) => true,
+    match source {
         Source::Id(k) => k <= LAST_ID,
-        Source::Register => true,
+        Source::Cells(_) | Source::Register => true,
     }
 }
 
-pub fn good_counts(s: Stage) -> bool
-    ensures { result ≡ good_counts s }
+pub fn good_counts(stage: Stage) -> bool
+    ensures { result ≡ good_counts stage }
 {
-    match s {
+    match stage {
         Stage::Standby => true,
-        Stage::Address(n, x) => good_bits(n, x),
-        Stage::Place(_, n, x) => good_bits(n, x),
-        Stage::Data(c, t, n, x) => {
-            if t <= most_taken(c) {
-                return good_bits(n, x);
-            }
-            false
-        }
-        Stage::Sending(q, n) => {
-            if good_source(q) {
-                return n <= BYTE_BITS;
-            }
-            false
-        }
-        Stage::Programming(c, t) => {
-            if 0 < t {
-                return t <= most_taken(c);
-            }
-            false
-        }
+        Stage::Address(n, x) | Stage::Place(_, n, x) => good_bits(n, x),
+        Stage::Data(command, taken, n, x) => taken <= most_taken(command) && good_bits(n, x),
+        Stage::Sending(source, n) => good_source(source) && n <= BYTE_BITS,
+        Stage::Programming(command, taken) => 0 < taken && taken <= most_taken(command),
     }
 }

@@ -1,11 +1,9 @@
 // One pass over the heads of a table, one head further; and what is said of the table after the last.
 ghost use Rattle.std.specs.Prelude.{◌≡◌};
-ghost use Rattle.bits.specs.Words.{both};
 ghost use Rattle.table.specs.Survey.{unseen, seen, tally, talks_of, well_of};
 
 use crate::{Survey, Verdict, devices, talk};
-use bits::Selector;
-use chip::{Head, Speed, Stage};
+use chip::Head;
 use image::MOST_RECORDS;
 
 fn tally(n: u8, k: u8) -> u8
@@ -14,22 +12,12 @@ fn tally(n: u8, k: u8) -> u8
     n % 16 + k % 2
 }
 
-fn both(a: bool, b: bool) -> bool
-    ensures { result ≡ both a b }
-{
-    if a {
-        return b;
-    }
-    false
-}
-
 impl Survey {
     // Before the first device.
     #[tactic(auto, unfolding(crate::specs::Survey::unseen))]
     pub fn none() -> Survey
         ensures { result ≡ unseen }
     {
-        let first = Stage::Standby;
         Survey {
             good: true,
             least: 0,
@@ -37,7 +25,7 @@ impl Survey {
             hearing: 0,
             started: 0,
             programming: 0,
-            first: first,
+            first: None,
             same: true,
             busy: false,
         }
@@ -45,42 +33,20 @@ impl Survey {
 
     // With one more head.
     #[tactic(auto, unfolding(crate::specs::Survey::seen))]
-    pub fn with(
-        self,
-        part: u8,
-        slave: u8,
-        flags: u8,
-        pointer: u8,
-        speed: Speed,
-        selector: Selector,
-        stage: Stage,
-    ) -> Survey
-        ensures { result ≡ seen self (record { part = part; slave = slave; flags = flags; pointer = pointer; speed = speed; selector = selector; stage = stage }) }
+    pub fn with(self, head: Head) -> Survey
+        ensures { result ≡ seen self head }
     {
-        let h = Head {
-            part: part,
-            slave: slave,
-            flags: flags,
-            pointer: pointer,
-            speed: speed,
-            selector: selector,
-            stage: stage,
-        };
-        let before = self.first;
-        let first = talk::first_of(before, stage);
+        let stage = head.stage;
         Survey {
-            good: both(
-                self.good,
-                both(devices::good_load(self.least, h), devices::good_device(h)),
-            ),
-            least: slave % 128 + 1,
+            good: self.good && devices::good_load(self.least, head) && devices::good_device(head),
+            least: head.slave % 128 + 1,
             past: tally(self.past, talk::is_past(stage)),
             hearing: tally(self.hearing, talk::is_hearing(stage)),
             started: tally(self.started, talk::is_started(stage)),
             programming: tally(self.programming, talk::is_programming(stage)),
-            first: first,
-            same: both(self.same, talk::same_with(before, stage)),
-            busy: wire::either(self.busy, wire::busy(stage)),
+            first: talk::first_of(self.first, stage),
+            same: self.same && talk::same_with(self.first, stage),
+            busy: self.busy || wire::busy(stage),
         }
     }
 
@@ -88,27 +54,19 @@ impl Survey {
     fn talks(self, count: usize) -> bool
         ensures { result ≡ talks_of self count }
     {
-        if self.past == 0 {
-            return self.same;
+        match self.past {
+            0 => self.same,
+            1 if self.programming == 0 => self.hearing == 0,
+            1 => self.started as usize + 1 == count,
+            _ => false,
         }
-        if self.past == 1 {
-            if self.programming == 0 {
-                return self.hearing == 0;
-            }
-            let others = self.started as usize;
-            return others + 1 == count;
-        }
-        false
     }
 
     #[tactic(auto, unfolding(crate::specs::Survey::well_of))]
     fn well_formed(self, count: usize) -> bool
         ensures { result ≡ well_of self count }
     {
-        if MOST_RECORDS < count {
-            return false;
-        }
-        both(self.good, self.talks(count))
+        count <= MOST_RECORDS && self.good && self.talks(count)
     }
 
     // Of a table of `count` devices, after the last of them.

@@ -1,111 +1,75 @@
-// The stage of one device: who is past its device address, who reads it, and with which bits.
+// The stage of one device: who is past its device address, who reads it, and with which bits. The numbers are the summands of a count.
 ghost use Rattle.std.specs.Prelude.{◌≡◌};
 ghost use Rattle.table.specs.WellFormed.{is_past, is_hearing, is_started, is_programming, same_as};
 ghost use Rattle.table.specs.Survey.{same_with, first_of};
 
+use crate::Bits;
 use chip::Stage;
 
-pub fn is_past(s: Stage) -> u8
-    ensures { result ≡ is_past s }
+pub fn is_past(stage: Stage) -> u8
+    ensures { result ≡ is_past stage }
 {
-    match s {
-        Stage::Standby => 0,
-        Stage::Address(_, _) => 0,
-        Stage::Place(_, _, _) => 1,
-        Stage::Data(_, _, _, _) => 1,
-        Stage::Sending(_, _) => 1,
-        Stage::Programming(_, _) => 1,
+    match stage {
+        Stage::Standby | Stage::Address(_, _) => 0,
+        _ => 1,
     }
 }
 
-pub fn is_hearing(s: Stage) -> u8
-    ensures { result ≡ is_hearing s }
+pub fn is_hearing(stage: Stage) -> u8
+    ensures { result ≡ is_hearing stage }
 {
-    match s {
-        Stage::Standby => 0,
+    match stage {
         Stage::Address(_, _) => 1,
-        Stage::Place(_, _, _) => 0,
-        Stage::Data(_, _, _, _) => 0,
-        Stage::Sending(_, _) => 0,
-        Stage::Programming(_, _) => 0,
+        _ => 0,
     }
 }
 
-pub fn is_started(s: Stage) -> u8
-    ensures { result ≡ is_started s }
+pub fn is_started(stage: Stage) -> u8
+    ensures { result ≡ is_started stage }
 {
-    match s {
-        Stage::Standby => 0,
-        Stage::Address(n, _) => {
-            if n == 0 {
-                return 1;
-            }
-            0
-        }
-        Stage::Place(_, _, _) => 0,
-        Stage::Data(_, _, _, _) => 0,
-        Stage::Sending(_, _) => 0,
-        Stage::Programming(_, _) => 0,
+    match stage {
+        Stage::Address(n, _) if n == 0 => 1,
+        _ => 0,
     }
 }
 
-pub fn is_programming(s: Stage) -> u8
-    ensures { result ≡ is_programming s }
+pub fn is_programming(stage: Stage) -> u8
+    ensures { result ≡ is_programming stage }
 {
-    match s {
-        Stage::Standby => 0,
-        Stage::Address(_, _) => 0,
-        Stage::Place(_, _, _) => 0,
-        Stage::Data(_, _, _, _) => 0,
-        Stage::Sending(_, _) => 0,
+    match stage {
         Stage::Programming(_, _) => 1,
+        _ => 0,
     }
 }
 
 // Whether a device agrees with bits n, x.
-pub fn same_as(n: u8, x: u8, s: Stage) -> bool
-    ensures { result ≡ same_as n x s }
+pub fn same_as(n: u8, x: u8, stage: Stage) -> bool
+    ensures { result ≡ same_as n x stage }
 {
-    match s {
-        Stage::Standby => true,
-        Stage::Address(m, y) => {
-            if m == n {
-                return y == x;
-            }
-            false
-        }
-        Stage::Place(_, _, _) => true,
-        Stage::Data(_, _, _, _) => true,
-        Stage::Sending(_, _) => true,
-        Stage::Programming(_, _) => true,
+    match stage {
+        Stage::Address(m, y) => m == n && y == x,
+        _ => true,
     }
 }
 
 // Whether it agrees with the first that reads its device address, if there is one before it.
 #[tactic(auto, unfolding(crate::specs::Survey::same_with))]
-pub fn same_with(first: Stage, s: Stage) -> bool
-    ensures { result ≡ same_with first s }
+pub fn same_with(first: Option<Bits>, stage: Stage) -> bool
+    ensures { result ≡ same_with first stage }
 {
     match first {
-        Stage::Standby => true,
-        Stage::Address(n, x) => same_as(n, x, s),
-        Stage::Place(_, _, _) => true,
-        Stage::Data(_, _, _, _) => true,
-        Stage::Sending(_, _) => true,
-        Stage::Programming(_, _) => true,
+        Some(bits) => same_as(bits.count, bits.value, stage),
+        None => true,
     }
 }
 
+// The bits of the first, with one more device: its own where it is the first.
 #[tactic(auto, unfolding(crate::specs::Survey::first_of))]
-pub fn first_of(first: Stage, s: Stage) -> Stage
-    ensures { result ≡ first_of first s }
+pub fn first_of(first: Option<Bits>, stage: Stage) -> Option<Bits>
+    ensures { result ≡ first_of first stage }
 {
-    match first {
-        Stage::Standby => s,
-        Stage::Address(n, x) => Stage::Address(n, x),
-        Stage::Place(_, _, _) => s,
-        Stage::Data(_, _, _, _) => s,
-        Stage::Sending(_, _) => s,
-        Stage::Programming(_, _) => s,
+    match (first, stage) {
+        (None, Stage::Address(count, value)) => Some(Bits { count, value }),
+        _ => first,
     }
 }

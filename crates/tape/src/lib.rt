@@ -2,11 +2,10 @@
 #![tactic(auto)]
 
 ghost use Rattle.std.specs.Prelude.{◌≡◌, ◌<◌, ◌≤◌, length, get_or, drop};
-ghost use Rattle.bits.specs.Words.{is_not};
-ghost use Rattle.tape.specs.Tape.{longest, marked, size_of, mask_of, kind_event, read_of, event_fault, scan_of, Plain};
+ghost use Rattle.tape.specs.Tape.{longest, size_of, mask_of, kind_event, read_of, event_fault, scan_of, plain, Plain};
 
 use chip::Event;
-use faults::{Fault, found, nothing};
+use faults::{Fault, Refusal};
 
 // The most bytes of an event file.
 pub const LONGEST: usize = 49152;
@@ -20,15 +19,15 @@ pub const SHORT: usize = 3;
 // The bytes of a mask.
 const MASK: usize = 8;
 
-// The last kind, and the only one with a mask.
-const CUT: u8 = 5;
+// The kinds after 0 and 1, which are a bit frame's.
+pub const NULL: u8 = 2;
 
-// The first fault, or none and the number of events.
-#[derive(Clone, Copy)]
-pub struct Scan {
-    pub fault: Fault,
-    pub events: usize,
-}
+const WAIT: u8 = 3;
+
+const RESET: u8 = 4;
+
+// The last kind, and the only one with a mask.
+pub const CUT: u8 = 5;
 
 // An event and the number of its bytes.
 #[derive(Clone, Copy)]
@@ -41,10 +40,7 @@ pub struct Read {
 pub fn size_of(kind: u8) -> usize
     ensures { result ≡ size_of kind }
 {
-    if kind == CUT {
-        return SHORT + MASK;
-    }
-    SHORT
+    if kind == CUT { SHORT + MASK } else { SHORT }
 }
 
 // The event of a kind; only a Cut looks at the mask, and a kind over 5, which no scanned file has, reads as Null.
@@ -52,169 +48,111 @@ pub fn size_of(kind: u8) -> usize
 pub fn event_of(kind: u8, mask: u64) -> Event
     ensures { result ≡ kind_event kind mask }
 {
-    if kind < 2 {
-        return Event::Bit(kind);
+    match kind {
+        0 | 1 => Event::Bit(kind),
+        NULL => Event::Null,
+        WAIT => Event::Wait,
+        RESET => Event::Reset,
+        CUT => Event::Cut(mask),
+        _ => Event::Null,
     }
-    if kind == 2 {
-        return Event::Null;
-    }
-    if kind == 3 {
-        return Event::Wait;
-    }
-    if kind == 4 {
-        return Event::Reset;
-    }
-    if kind == CUT {
-        return Event::Cut(mask);
-    }
-    Event::Null
-}
-
-// Whether the event that begins what is left of the file lacks its mark.
-fn lacks_mark(left: &[u8]) -> bool
-    requires { 2 ≤ length left.now }
-    ensures { result ≡ is_not (marked left.now) }
-{
-    let mark = b"EV";
-    if left[0] != mark[0] {
-        return true;
-    }
-    if left[1] != mark[1] {
-        return true;
-    }
-    false
 }
 
 // The fault of the event that begins what is left of the file, `at` bytes from its start.
 #[tactic(auto, unfolding(crate::specs::Tape::event_fault))]
-fn event_fault(left: &[u8], at: usize) -> Fault
+fn event_fault(left: &[u8], at: usize) -> Result<(), Fault>
     requires { at < longest }
     ensures { result ≡ event_fault at left.now }
 {
-    if left.len() < SHORT {
-        return found(8, at);
-    }
-    let unmarked = lacks_mark(left);
-    let kind = left[KIND];
-    if unmarked {
-        return found(9, at);
+    let &[_, _, kind, ..] = left else {
+        return Err(Refusal::EventLength.at(at));
+    };
+    if !left.starts_with(b"EV") {
+        return Err(Refusal::EventMark.at(at));
     }
     if CUT < kind {
-        return found(10, at + KIND);
+        return Err(Refusal::EventKind.at(at + KIND));
     }
-    let size = size_of(kind);
-    if left.len() < size {
-        return found(8, at);
+    if left.len() < size_of(kind) {
+        return Err(Refusal::EventLength.at(at));
     }
-    nothing()
+    Ok(())
 }
 
-// How many events from `start` on have, one after the other, neither a fault nor a mask: most of a file, three bytes each.
+// Whether an event has neither a fault nor a mask.
+fn is_plain(event: &[u8]) -> bool
+    ensures { result ≡ plain event.now }
+{
+    matches!(event, [b'E', b'V', kind, ..] if *kind < CUT)
+}
+
+// How many events from `start` on are plain, one after the other: most of a file, three bytes each.
 fn plain_ahead(tape: &[u8], start: usize) -> usize
-    requires { (start ≤ length tape.now) × (length tape.now ≤ longest) }
+    requires { start ≤ length tape.now }
     ensures { Plain tape.now start result }
 {
-    let mark = b"EV";
-    let mut at = start;
-    let mut n: usize = 0;
-    while at + KIND < tape.len() {
-        if tape[at] != mark[0] {
-            return n;
-        }
-        if tape[at + 1] != mark[1] {
-            return n;
-        }
-        if CUT <= tape[at + KIND] {
-            return n;
-        }
-        at += SHORT;
-        n += 1;
-    }
-    n
+    tape[start..]
+        .chunks_exact(SHORT)
+        .take_while(|event| is_plain(event))
+        .count()
 }
 
-pub fn scan_tape(tape: &[u8]) -> Scan
+// The first fault, or the number of events. The step is as long as the event there, so the loop counts its bytes by hand.
+#[tactic(auto, unfolding(crate::specs::Tape::scan_of, crate::specs::Tape::tape_fault), using(crate::proofs::ScanLaws::fits))]
+pub fn scan_tape(tape: &[u8]) -> Result<usize, Fault>
     ensures { result ≡ scan_of tape.now }
 {
     if LONGEST < tape.len() {
-        return refused(found(8, 0));
+        return Err(Refusal::EventLength.at(0));
     }
-    let mut at: usize = 0;
-    let mut n: usize = 0;
+    let mut at = 0;
+    let mut events = 0;
     while at < tape.len() {
-        let f = event_fault(&tape[at..], at);
-        if f.number != 0 {
-            return refused(f);
-        }
+        event_fault(&tape[at..], at)?;
         at += size_of(tape[at + KIND]);
-        n += 1;
-        let k = plain_ahead(tape, at);
-        at += SHORT * k;
-        n += k;
+        events += 1;
+        let plain = plain_ahead(tape, at);
+        at += SHORT * plain;
+        events += plain;
     }
-    Scan {
-        fault: nothing(),
-        events: n,
-    }
+    Ok(events)
 }
 
-fn refused(f: Fault) -> Scan
-    ensures { result ≡ record { fault = f; events = 0 } }
+// What is left of the file from a byte position on, nothing past its end.
+fn left_from(tape: &[u8], at: usize) -> &[u8]
+    ensures { result.now ≡ drop at tape.now }
 {
-    Scan {
-        fault: f,
-        events: 0,
-    }
+    tape.get(at..).unwrap_or_default()
 }
 
-// Byte k of what is left of the file from `at`, 0 where there is none.
-fn byte_at(tape: &[u8], at: usize, k: usize) -> u8
-    ensures { result ≡ get_or (drop at tape.now) k 0 }
+// Byte k of what is left of the file, 0 where there is none.
+fn byte_at(left: &[u8], k: usize) -> u8
+    ensures { result ≡ get_or left.now k 0 }
 {
-    let n = tape.len();
-    if n <= k {
-        return 0;
-    }
-    if n - k <= at {
-        return 0;
-    }
-    tape[at + k]
+    left.get(k).copied().unwrap_or(0)
 }
 
-fn wide(x: u8) -> u64
-    ensures { result ≡ x }
+// The mask of the event that begins what is left of the file, whole or not.
+fn mask_of(left: &[u8]) -> u64
+    ensures { result ≡ mask_of left.now }
 {
-    x as u64
-}
-
-// The mask of the event at a byte position, from its most significant byte down.
-fn mask_at(tape: &[u8], at: usize) -> u64
-    ensures { result ≡ mask_of (drop at tape.now) }
-{
-    let mut mask: u64 = 0;
-    let mut i = MASK;
-    while 0 < i {
-        i -= 1;
-        let b = wide(byte_at(tape, at, SHORT + i));
-        mask = mask * 256 + b;
+    let mut mask = [0; MASK];
+    for (k, byte) in mask.iter_mut().enumerate() {
+        *byte = byte_at(left, SHORT + k);
     }
-    mask
+    u64::from_le_bytes(mask)
 }
 
 // The event at a byte position and the number of its bytes.
+#[tactic(auto, unfolding(crate::specs::Tape::kind_event))]
 pub fn event_at(tape: &[u8], at: usize) -> Read
     ensures { result ≡ read_of (drop at tape.now) }
 {
-    let kind = byte_at(tape, at, KIND);
-    let size = size_of(kind);
-    if kind == CUT {
-        return Read {
-            event: event_of(kind, mask_at(tape, at)),
-            size: size,
-        };
-    }
+    let left = left_from(tape, at);
+    let kind = byte_at(left, KIND);
+    let mask = if kind == CUT { mask_of(left) } else { 0 };
     Read {
-        event: event_of(kind, 0),
-        size: size,
+        event: event_of(kind, mask),
+        size: size_of(kind),
     }
 }

@@ -1,60 +1,51 @@
 // The trace program: bus.img and events.trc of the current directory in, a line of text for each event out. It writes no file.
 #![tactic(auto)]
 
-ghost use Rattle.std.specs.Prelude.{◌≡◌, ◌≤◌, length, take};
-
 mod text;
 
 use std::fs::File;
 use std::io;
-use std::io::Read;
+use std::io::{Read, Write};
+use text::Text;
 
 // One byte more than document 01 allows, so that a longer file is seen to be longer and refused by its number.
-const BUS_ROOM: usize = 1345;
+const BUS_ROOM: usize = 8 * 168 + 1;
 
-const TAPE_ROOM: usize = 49153;
-// An event has at least three bytes.
-const ANSWER_ROOM: usize = 16384;
+const TAPE_ROOM: usize = tape::LONGEST + 1;
+
+const ANSWER_ROOM: usize = tape::LONGEST / tape::SHORT;
+
 // A line has at most eleven bytes, as `16383 C 80` and LF, and the header fewer than 64.
-const TEXT_ROOM: usize = 180288;
+const TEXT_ROOM: usize = 11 * ANSWER_ROOM + 64;
 
-// The start of a file into a room, and how many bytes came; a missing file counts as empty.
-fn read_file(rt: &HostRuntime, name: &str, room: &mut [u8]) -> usize
-    ensures { (result ≤ length room.new) × (result ≡ length (take result room.new)) }
-{
+// The start of a file, as much of it as the room has place for; a missing file counts as empty.
+fn read_file<'a>(rt: &HostRuntime, name: &str, room: &'a mut [u8]) -> &'a mut [u8] {
     match File::open(rt, name) {
         Ok(file) => read_full(file, room),
-        Err(_) => 0,
+        Err(_) => &mut [],
     }
 }
 
 // The bytes of a file until it or the room ends, or no more can be read.
-fn read_full(mut file: File, room: &mut [u8]) -> usize
-    ensures { (result ≤ length room.new) × (result ≡ length (take result room.new)) }
-{
-    let mut n: usize = 0;
-    while n < room.len() {
-        match file.read(&mut room[n..]) {
-            Ok(0) => return n,
-            Ok(k) => n += k,
-            Err(_) => return n,
+fn read_full(mut file: File, room: &mut [u8]) -> &mut [u8] {
+    let mut filled = 0;
+    while let Ok(more) = file.read(&mut room[filled..]) {
+        if more == 0 {
+            break;
         }
+        filled += more;
     }
-    n
+    &mut room[..filled]
 }
 
 fn main(rt: HostRuntime) -> io::Result<()> {
-    let mut bus_room = [0u8; BUS_ROOM];
-    let mut tape_room = [0u8; TAPE_ROOM];
-    let mut answers = [0u8; ANSWER_ROOM];
-    let mut lines = [0u8; TEXT_ROOM];
-    let bus_len = read_file(&rt, "bus.img", &mut bus_room);
-    let tape_len = read_file(&rt, "events.trc", &mut tape_room);
-    let n = text::traced(
-        &mut bus_room[..bus_len],
-        &tape_room[..tape_len],
-        &mut answers,
-        &mut lines,
-    );
-    text::show(&rt, &lines, n)
+    let mut bus_room = [0; BUS_ROOM];
+    let mut tape_room = [0; TAPE_ROOM];
+    let mut answers = [0; ANSWER_ROOM];
+    let mut text = Text::<TEXT_ROOM>::new();
+    let bus = read_file(&rt, "bus.img", &mut bus_room);
+    let tape = read_file(&rt, "events.trc", &mut tape_room);
+    // Text refuses nothing that is written to it.
+    let _ = text::traced(bus, tape, &mut answers, &mut text);
+    rt.stdout().write_all(text.as_bytes())
 }

@@ -1,19 +1,18 @@
 -- The devices on one wire: what an event does to all of them, and what it answers.
-use Rattle.std.specs.Prelude.{ℕ, ◌+◌, ◌%◌, Bool, true, false, List, [], ◌∷◌, eqb}
+use Rattle.std.specs.Prelude.{ℕ, ◌+◌, ◌%◌, Bool, true, false, List, [], ◌∷◌, eqb, Option, Some, None}
 use Rattle.bits.specs.Words.{pick}
 use Rattle.chip.specs.declared.Device.{Device}
 use Rattle.chip.specs.declared.Stage.{Stage}
 use Rattle.chip.specs.declared.Cycle.{Cycle}
-use Rattle.chip.specs.declared.Cycle.TheVariants.{Idle, Of}
 use Rattle.chip.specs.declared.Event.{Event}
 use Rattle.chip.specs.declared.Event.TheVariants.{Bit, Null, Wait, Reset, Cut}
 use Rattle.chip.specs.Cycle.{running}
 use Rattle.chip.specs.Take.{take_of}
 
 -- a device programs
-abbrev pub is_cycle : Cycle → Bool
-is_cycle Idle = false
-is_cycle (Of c t) = true
+abbrev pub is_cycle : Option Cycle → Bool
+is_cycle None = false
+is_cycle (Some r) = true
 
 abbrev pub busy : Stage → Bool
 busy s = is_cycle (running s)

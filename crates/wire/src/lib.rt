@@ -1,32 +1,19 @@
 // The wire as a whole: which events are carried out, its level, and the answer byte.
 #![tactic(auto)]
 
-ghost use Rattle.std.specs.Prelude.{◌≡◌, true};
-ghost use Rattle.bits.specs.Words.{pick};
+ghost use Rattle.std.specs.Prelude.{◌≡◌};
 ghost use Rattle.wire.specs.Wire.{busy, barred, masters_level, pulled, replied, answer_from, counted_from};
 
-use chip::{Cycle, Event, Stage};
+use chip::{Event, Stage};
 
 // The answer to an event that is not carried out.
 pub const NOT_CARRIED_OUT: u8 = 0x80;
 
 // Whether a device programs.
-pub fn busy(s: Stage) -> bool
-    ensures { result ≡ busy s }
+pub fn busy(stage: Stage) -> bool
+    ensures { result ≡ busy stage }
 {
-    match chip::running(s) {
-        Cycle::Idle => false,
-        Cycle::Of(_, _) => true,
-    }
-}
-
-pub fn either(a: bool, b: bool) -> bool
-    ensures { result ≡ pick a true b }
-{
-    if a {
-        return true;
-    }
-    b
+    stage.running().is_some()
 }
 
 // Whether an event is not carried out; `any`: a device programs.
@@ -34,11 +21,8 @@ pub fn barred(ev: Event, any: bool) -> bool
     ensures { result ≡ barred ev any }
 {
     match ev {
-        Event::Bit(_) => any,
-        Event::Null => false,
-        Event::Wait => false,
-        Event::Reset => any,
-        Event::Cut(_) => false,
+        Event::Bit(_) | Event::Reset => any,
+        Event::Null | Event::Wait | Event::Cut(_) => false,
     }
 }
 
@@ -46,10 +30,7 @@ pub fn barred(ev: Event, any: bool) -> bool
 pub fn counted(barred: bool) -> usize
     ensures { result ≡ counted_from barred }
 {
-    if barred {
-        return 1;
-    }
-    0
+    usize::from(barred)
 }
 
 // The level before any device drives.
@@ -58,10 +39,7 @@ pub fn masters_level(ev: Event) -> u8
 {
     match ev {
         Event::Bit(b) => b % 2,
-        Event::Null => 1,
-        Event::Wait => 1,
-        Event::Reset => 1,
-        Event::Cut(_) => 1,
+        Event::Null | Event::Wait | Event::Reset | Event::Cut(_) => 1,
     }
 }
 
@@ -69,20 +47,7 @@ pub fn masters_level(ev: Event) -> u8
 pub fn pulled(level: u8, wire: u8) -> u8
     ensures { result ≡ pulled level wire }
 {
-    if level == 0 {
-        return 0;
-    }
-    wire
-}
-
-// A device that pulls the wire down is there.
-fn presence(wire: u8) -> u8
-    ensures { result ≡ replied Event.Reset wire }
-{
-    if wire == 0 {
-        return 0x04;
-    }
-    0x05
+    if level == 0 { 0 } else { wire }
 }
 
 // The answer byte of an event that is carried out.
@@ -93,8 +58,9 @@ pub fn replied(ev: Event, wire: u8) -> u8
         Event::Bit(_) => wire,
         Event::Null => 0x02,
         Event::Wait => 0x03,
-        Event::Reset => presence(wire),
-        Event::Cut(_) => presence(wire),
+        // a device that pulls the wire down is there
+        Event::Reset | Event::Cut(_) if wire == 0 => 0x04,
+        Event::Reset | Event::Cut(_) => 0x05,
     }
 }
 
@@ -103,7 +69,8 @@ pub fn answer(barred: bool, ev: Event, wire: u8) -> u8
     ensures { result ≡ answer_from barred ev wire }
 {
     if barred {
-        return NOT_CARRIED_OUT;
+        NOT_CARRIED_OUT
+    } else {
+        replied(ev, wire)
     }
-    replied(ev, wire)
 }

@@ -1,56 +1,37 @@
 -- The refusals in their order by what `load` and `scan_tape` say, and a good run by what `play` says.
-use Rattle.std.proofs.Common.{◌∙◌}
-use Rattle.bus.proofs.Answers.{refused_bus, refused_tape, refused_room, done, load_fault, load_table, load_few, scan_fault, scan_count}
+use Rattle.std.proofs.Common.{◌∙◌, rules}
+use Rattle.bus.proofs.Answers.{load_sound, load_table, load_few, scan_sound, scan_count, refused_bus, refused_tape, refused_room, done}
 use Rattle.bus.proofs.run.Goals as goal
 
-pub returns-then-bus_faulty : goal.returns-then-bus_faulty
-returns-then-bus_faulty c =
+pub returns-in_err-loaded : goal.returns-in_err-loaded
+returns-in_err-loaded c =
     let a = c.args in
-    let f = load_fault a.bus.now _ c.load-loaded.ensures in
-    let r = refused_bus a.bus.now a.tape.now a.answers.now (rw f at c.if-bus_faulty.true) in
-    record { value = rw f r.0; bus_after = r.1.0; answers_after = r.1.1.0; reading = r.1.1.1 }
+    let e = refused_bus a.bus.now a.tape.now a.answers.now _ c.in_err-loaded.ensures in
+    record { value = search (rules, e.value); bus_after = e.bus_after; answers_after = e.answers_after; reading = e.reading }
 
-pub returns-then-tape_faulty : goal.returns-then-tape_faulty
-returns-then-tape_faulty c =
+pub returns-in_err-events : goal.returns-in_err-events
+returns-in_err-events c =
     let a = c.args in
-    let f = load_fault a.bus.now _ c.load-loaded.ensures in
-    let g = scan_fault a.tape.now _ c.scan_tape-scan.ensures in
-    let r = refused_tape a.bus.now a.tape.now a.answers.now (rw f at c.if-bus_faulty.false) (rw g at c.if-tape_faulty.true) in
-    record { value = rw g r.0; bus_after = r.1.0; answers_after = r.1.1.0; reading = r.1.1.1 }
+    let e = refused_tape a.bus.now a.tape.now a.answers.now _ c.in_ok-loaded.ensures _ c.in_err-events.ensures in
+    record { value = search (rules, e.value); bus_after = e.bus_after; answers_after = e.answers_after; reading = e.reading }
 
-pub returns-then-answers-events : goal.returns-then-answers-events
-returns-then-answers-events c =
+pub returns-then-lacks_room : goal.returns-then-lacks_room
+returns-then-lacks_room c =
     let a = c.args in
-    let f = load_fault a.bus.now _ c.load-loaded.ensures in
-    let g = scan_fault a.tape.now _ c.scan_tape-scan.ensures in
-    let sound = rw g at c.if-tape_faulty.false in
-    let n = scan_count a.tape.now _ c.scan_tape-scan.ensures sound in
-    let r = refused_room a.bus.now a.tape.now a.answers.now (rw f at c.if-bus_faulty.false) sound (rw n at c.if-answers-events.true) in
-    record { value = rw c.found.ensures r.0; bus_after = r.1.0; answers_after = r.1.1.0; reading = r.1.1.1 }
+    let e = refused_room a.bus.now a.tape.now a.answers.now _ c.in_ok-loaded.ensures _ c.in_ok-events.ensures c.if-lacks_room.true in
+    record { value = rw c.at.ensures e.value; bus_after = e.bus_after; answers_after = e.answers_after; reading = e.reading }
 
 pub play-refused-requires : goal.play-refused-requires
 play-refused-requires c =
-    let a = c.args in
-    let f = load_fault a.bus.now _ c.load-loaded.ensures in
-    let g = scan_fault a.tape.now _ c.scan_tape-scan.ensures in
-    let clean = rw f at c.if-bus_faulty.false in
-    let sound = rw g at c.if-tape_faulty.false in
-    let n = scan_count a.tape.now _ c.scan_tape-scan.ensures sound in
-    (clean, load_table a.bus.now _ c.load-loaded.ensures clean, sound, rw n at c.if-answers-events.false, load_few a.bus.now _ c.load-loaded.ensures clean)
+    let bus = c.args.bus.now in
+    let tape = c.args.tape.now in
+    let loads = c.in_ok-loaded.ensures in
+    let scans = c.in_ok-events.ensures in
+    (load_sound bus _ loads, load_table bus _ loads, scan_sound tape _ scans, rw (← scan_count tape _ scans) c.if-lacks_room.false, load_few bus _ loads)
 
 pub returns : goal.returns
 returns c =
     let a = c.args in
-    let f = load_fault a.bus.now _ c.load-loaded.ensures in
-    let g = scan_fault a.tape.now _ c.scan_tape-scan.ensures in
-    let clean = rw f at c.if-bus_faulty.false in
-    let sound = rw g at c.if-tape_faulty.false in
-    let n = scan_count a.tape.now _ c.scan_tape-scan.ensures sound in
     let p = c.play-refused.ensures in
-    let d = done a.bus.now a.tape.now a.answers.now clean sound (rw n at c.if-answers-events.false) in
-    record {
-      value = rw (n, p.value) d.0;
-      bus_after = p.bus_after ∙ d.1.0;
-      answers_after = p.answers_after ∙ d.1.1.0;
-      reading = p.bus_after ∙ d.1.1.1;
-    }
+    let e = done a.bus.now a.tape.now a.answers.now _ c.in_ok-loaded.ensures _ c.in_ok-events.ensures c.if-lacks_room.false in
+    record { value = rw p.value e.value; bus_after = p.bus_after ∙ e.bus_after; answers_after = p.answers_after ∙ e.answers_after; reading = p.bus_after ∙ e.reading }

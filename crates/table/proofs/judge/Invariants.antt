@@ -1,10 +1,7 @@
 -- The survey goes as the pass over the list does, one turn a device.
-use Rattle.std.proofs.Common.{◌≡◌, ◌-◌, ◌≤◌, length, take}
+use Rattle.std.proofs.Common.{◌≡◌, take}
 use Rattle.table.specs.Survey.{unseen, seen_all}
 use Rattle.table.proofs.judge.Given as goal
 
-abbrev pub invariant-loop-i : goal.invariant-loop-i
-invariant-loop-i l = (l.i ≤ length l.table) × (l.s ≡ seen_all unseen (take l.i l.table))
-
-abbrev pub decreases-loop-i : goal.decreases-loop-i
-decreases-loop-i l = length l.table - l.i
+abbrev pub invariant-loop-device : goal.invariant-loop-device
+invariant-loop-device l = l.survey ≡ seen_all unseen (take l.device-index l.table)

@@ -1,10 +1,15 @@
-use Rattle.std.proofs.Common.{◌+◌, ◌<◌, get_or, arith}
-use Rattle.tape.proofs.ScanLaws.{plain_more}
+use Rattle.std.proofs.Common.{rules, tests}
+use Rattle.std.proofs.lemmas.Iterator.Consumers.{YieldsList-at, count_from_yields_List}
+use Rattle.std.proofs.lemmas.Iterator.Search.{YieldsList-from_take_while}
+use Rattle.std.proofs.lemmas.List.Folds.{length-prefix_len}
+use Rattle.faults.proofs.Lists.{rest_is}
+use Rattle.tape.specs.Tape.{plain}
+use Rattle.tape.proofs.PlainLaws.{threes_yielded, plain_run}
 use Rattle.tape.proofs.plain_ahead.Goals as goal
 
-pub loop-at-preserved : goal.loop-at-preserved
-loop-at-preserved c =
-    let e = c.loop-at.invariant.0 in
-    let no_mask : get_or c.args.tape.now (c.loop-at.at + 2) 0 < 5 = omega arith in
-    let more = plain_more _ _ _ c.loop-at.invariant.2 (rw e at c.loop-at-test.true) (rw e at c.if-tape-at.false) (rw e at c.if-tape-at-2.false) (rw e at no_mask) in
-    (omega arith, c.loop-at.invariant.1, more)
+pub returns : goal.returns
+returns c =
+    let pieces = threes_yielded c.chunks_exact.result c.chunks_exact.ensures.size in
+    let counted = count_from_yields_List c.take_while.result _ c.count.ensures.ran
+    (YieldsList-from_take_while _ plain (YieldsList-at c.take_while.ensures.source pieces) c.take_while.ensures.closure c.take_while.ensures.done (λ x b q k. search (rules, tests))) in
+    rw (counted, length-prefix_len, c.chunks_exact.ensures.rest, rest_is) (plain_run c.args.tape.now c.args.start c.requires)

@@ -4,21 +4,22 @@ use Rattle.bus.specs.Held.{none, more}
 use Rattle.bus.proofs.Frames.{room_whole, room_one, room_more}
 use Rattle.bus.proofs.glide.frames.Goals as goal
 
-pub loop-n-init : goal.loop-n-init
-loop-n-init c = (refl, c.requires, none)
+pub loop-byte-init : goal.loop-byte-init
+loop-byte-init c = record { long = refl; room = c.requires; gone = none }
 
-pub bounds-tape-at : goal.bounds-tape-at
-bounds-tape-at c = let w = room_whole _ _ _ _ c.loop-n.invariant.1 c.if-tape-at.false in omega arith
+pub bounds-tape-progress : goal.bounds-tape-progress
+bounds-tape-progress c = let w = room_whole _ _ _ c.loop-byte.invariant.room c.if-progress-tape.true in omega arith
 
-pub bounds-answers-i : goal.bounds-answers-i
-bounds-answers-i c = room_one _ _ _ _ c.loop-n.invariant.1 c.if-tape-at.false
+pub bounds-answers-progress : goal.bounds-answers-progress
+bounds-answers-progress c = room_one _ _ _ c.loop-byte.invariant.room c.if-progress-tape.true
 
-pub loop-n-preserved : goal.loop-n-preserved
-loop-n-preserved c =
-    let inv = c.loop-n.invariant in
-    let h = c.if-tape-at.false in
-    let bit = c.if-bit-ge-NULL.false in (
-      simp length-set inv.0,
-      simp length-set (room_more _ _ _ _ inv.1 h bit),
-      rw (c.more-x.ensures, c.pulled.ensures, c.bit_at.ensures) (more inv.2 c.loop-n-test.true (room_whole _ _ _ _ inv.1 h) bit),
-    )
+pub loop-byte-preserved : goal.loop-byte-preserved
+loop-byte-preserved c =
+    let inv = c.loop-byte.invariant in
+    let h = c.if-progress-tape.true in
+    let bit = c.if-bit-ge-NULL.false in
+    record {
+      long = simp length-set inv.long;
+      room = simp length-set (room_more _ _ _ inv.room h bit);
+      gone = rw (c.more.ensures, c.pulled.ensures, c.bit_at.ensures) (more inv.gone c.loop-byte-test.true (room_whole _ _ _ inv.room h) bit);
+    }

@@ -1,11 +1,14 @@
-use Rattle.std.proofs.Common.{◌≡◌, ◌-◌, length}
+-- Frames from the start on, and room for the answers to the rest.
+use Rattle.std.proofs.Common.{◌-◌, ◌≡◌, length}
 use Rattle.bus.specs.Held.{Room, Frames}
 use Rattle.bus.proofs.glide.frames.Given as goal
 
-abbrev pub invariant-loop-n : goal.invariant-loop-n
-invariant-loop-n l =
-    (length l.answers ≡ length l.initial.answers) × Room l.tape l.at l.i (length l.answers)
-    × Frames l.tape l.shown l.start l.first l.initial.n l.initial.x l.initial.answers l.at l.i l.n l.x l.answers
+abbrev pub invariant-loop-byte : goal.invariant-loop-byte
+invariant-loop-byte l = record {
+  long : length l.answers ≡ length l.initial.answers;
+  room : Room l.tape l.progress (length l.answers);
+  gone : Frames l.tape l.shown l.fn.start l.fn.under l.initial.answers l.progress l.byte l.answers;
+}
 
-abbrev pub decreases-loop-n : goal.decreases-loop-n
-decreases-loop-n l = 8 - l.n
+abbrev pub decreases-loop-byte : goal.decreases-loop-byte
+decreases-loop-byte l = 8 - l.byte.count

@@ -1,10 +1,11 @@
-use Rattle.std.proofs.Common.{◌≡◌, ◌-◌, length}
-use Rattle.image.specs.Scan.{bus_fault}
-use Rattle.image.proofs.Files.{Loading}
+use Rattle.std.proofs.Common.{◌≡◌, ◌+◌, ◌*◌, length}
+use lib.Seq.{sets}
+use Rattle.image.specs.Layout.{record_size}
+use Rattle.image.specs.Image.{devices_of, table_of}
 use Rattle.image.proofs.loading.load.Given as goal
 
-abbrev pub invariant-loop-at : goal.invariant-loop-at
-invariant-loop-at l = ((bus_fault l.bus).number ≡ 0) × Loading l.bus l.initial.devices l.devices l.count l.at
-
-abbrev pub decreases-loop-at : goal.decreases-loop-at
-decreases-loop-at l = length l.bus - l.at
+abbrev pub invariant-loop-k : goal.invariant-loop-k
+invariant-loop-k l =
+    let rest = l.k-iterator.iter.rest.now in
+    let k = l.k-iterator.count in
+    (l.k-iterator.iter.size ≡ record_size) × (length l.bus ≡ record_size * k + length rest) × (sets l.devices k (devices_of rest) ≡ table_of (devices_of l.bus))

@@ -1,14 +1,18 @@
--- The five parts, laid one after the other, are the record.
-use Rattle.std.proofs.Common.{rules}
-use Rattle.image.specs.Image.{at_load}
+use Rattle.std.proofs.Common.{◌≡◌, [], rules}
+use Rattle.image.specs.Layout.{reserved}
 use Rattle.image.specs.Promises.{Sized}
+use Rattle.image.proofs.Forth.{length_record}
 use Rattle.image.proofs.Records.{written}
 use Rattle.image.proofs.saving.write_record.Goals as goal
 
-pub returns : goal.returns
-returns c =
-    let x = c.args in
-    let g = c.well_formed in
-    let d = at_load x.part x.slave x.id x.flags x.main.now x.serial.now x.user.now in
-    let s : Sized d = record { id = search (rules, g); main = search rules; serial = search rules; user = search rules } in
-    written x.room.now _ _ _ _ _ d c.requires s c.put.ensures c.put-2.ensures c.put-3.ensures c.put-4.ensures c.put-5.ensures
+pub returns-clause-written : goal.returns-clause-written
+returns-clause-written c =
+    let s : Sized c.args.device.now = record { id = search rules; main = search rules; serial = search rules; user = search rules } in
+    let ff : c.fill.new.self ≡ reserved = search rules in
+    written c.args.room.now _ _ _ _ _ _ c.args.device.now c.requires s
+    c.copy_from_slice.ensures.after c.copy_from_slice-2.ensures.after c.copy_from_slice-3.ensures.after c.copy_from_slice-4.ensures.after ff c.copy_from_slice-5.ensures.after
+
+pub returns-clause-whole : goal.returns-clause-whole
+returns-clause-whole c =
+    let s : Sized c.args.device.now = record { id = search rules; main = search rules; serial = search rules; user = search rules } in
+    length_record c.args.device.now [] s

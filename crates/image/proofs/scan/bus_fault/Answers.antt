@@ -1,29 +1,10 @@
-use Rattle.std.proofs.Common.{arith}
-use borrow.Author.Tests.{le-ltb, eq-eqb}
-use Rattle.image.specs.Scan.{bus_fault}
-use Rattle.image.proofs.Records.{passed_more, passed_bad, passed_low, passed_all}
+use Rattle.std.proofs.Common.{◌∙◌, sym}
+use Rattle.image.proofs.Records.{scanned_more}
 use Rattle.image.proofs.scan.bus_fault.Goals as goal
 
-pub returns-then-f-ne0 : goal.returns-then-f-ne0
-unfolding bus_fault
-returns-then-f-ne0 c =
-    let i = c.loop-at.invariant in
-    let all = passed_bad _ _ _ _ c.loop-at-test.true i.2 c.record_fault-f.ensures c.if-f-ne0.true in
-    simp (le-ltb _ _ i.0, eq-eqb _ _ i.1, ← all)
-
-pub overflow_add-least-in-loop-at : goal.overflow_add-least-in-loop-at
-overflow_add-least-in-loop-at c =
-    let k = passed_low c.args.bus.now c.loop-at.at c.loop-at.least _ c.loop-at-test.true c.loop-at.invariant.2 c.record_fault-f.ensures c.if-f-ne0.false in
-    omega (arith, k)
-
-pub loop-at-preserved : goal.loop-at-preserved
-loop-at-preserved c =
-    let i = c.loop-at.invariant in
-    (i.0, i.1, passed_more c.args.bus.now c.loop-at.at c.loop-at.least _ c.loop-at-test.true i.2 c.record_fault-f.ensures c.if-f-ne0.false)
-
-pub returns : goal.returns
-unfolding bus_fault
-returns c =
-    let i = c.loop-at.invariant in
-    let all = passed_all _ _ _ c.loop-at-test.false i.2 in
-    simp (c.nothing.ensures, le-ltb _ _ i.0, eq-eqb _ _ i.1, all)
+pub loop-k-preserved : goal.loop-k-preserved
+loop-k-preserved c =
+    let w = c.in-Some.ensures.steps in
+    let v = c.loop-k.invariant in
+    let z = sym c.record_fault.ensures ∙ c.in_ok-record_fault.was in
+    (w.0.0 ∙ v.0, rw w.2 (scanned_more _ _ _ _ _ _ v.1 w.0.1.0 (w.0.1.1 ∙ v.0) (rw w.1 at z)))

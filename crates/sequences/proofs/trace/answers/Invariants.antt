@@ -1,6 +1,0 @@
--- The events that are left.
-use Rattle.std.proofs.Common.{◌-◌}
-use Rattle.sequences.proofs.trace.answers.Given as goal
-
-abbrev pub decreases-loop-i : goal.decreases-loop-i
-decreases-loop-i l = 10 - l.i
