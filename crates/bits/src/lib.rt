@@ -68,8 +68,8 @@ pub fn security_address(byte: u8) -> u8
 pub fn after_in<const LAST: u8>(p: u8) -> u8
     ensures { result ≡ after_in (LAST + 1) p }
 {
-    let size = LAST as u16 + 1;
-    ((p as u16 % size + 1) % size) as u8
+    let size = u16::from(LAST) + 1;
+    ((u16::from(p) % size + 1) % size) as u8
 }
 
 // The next address inside a page of eight.

@@ -12,7 +12,7 @@ use Rattle.chip.specs.declared.Stage.{Stage}
 use Rattle.tape.specs.Tape.{kind_of, size_of, kind_event, event_of, events_of}
 use Rattle.tape.specs.Promises.{NoFault, Begins}
 use Rattle.tape.proofs.TapeLaws.{begins, size_some}
-use Rattle.bus.specs.declared.Byte.{Byte}
+use Rattle.chip.specs.declared.Byte.{Byte}
 use Rattle.bus.specs.declared.Progress.{Progress}
 use Rattle.bus.specs.Held.{progress, Room, Frames, none, more, Glides, own, apart}
 

@@ -25,14 +25,14 @@ use Rattle.chip.specs.declared.Drive.TheVariants.{Free, Low}
 use Rattle.chip.specs.declared.Act.TheVariants.{Nothing}
 use Rattle.chip.specs.declared.Event.TheVariants.{Bit}
 use Rattle.chip.specs.Head.{at}
-use Rattle.chip.specs.Stages.{register_drive, shows, framed}
+use Rattle.chip.specs.Stages.{register_drive, shows, framed, past}
 use Rattle.chip.specs.Cycle.{heard}
 use Rattle.bits.proofs.Choices.{choice}
 use Rattle.wire.specs.Wire.{busy, any_busy, pulled}
 use Rattle.image.specs.Layout.{record_size}
-use Rattle.bus.specs.declared.Byte.{Byte}
+use Rattle.chip.specs.declared.Byte.{Byte}
 use Rattle.bus.specs.declared.Progress.{Progress}
-use Rattle.bus.specs.Held.{unplayed, played, number, blank_head, standing, bit_after, ninth_due, called, past, span, span_of, byte, longer, progress, byte_of, resumed, pointed, glided, shown_in, driven, level_in, acted_in, put_to, Frames, none, more, Glides, own, apart}
+use Rattle.bus.specs.Held.{unplayed, played, number, blank_head, standing, bit_after, ninth_due, called, span, span_of, byte, longer, progress, byte_of, resumed, pointed, glided, shown_in, driven, level_in, acted_in, put_to, Frames, none, more, Glides, own, apart}
 use Rattle.bus.proofs.Held.{blank}
 use Rattle.bus.proofs.Landing.{Apart, rests, reads, apart_free, no}
 use Rattle.bus.proofs.Passing.{standing_own, standing_other}

@@ -23,13 +23,13 @@ use Rattle.chip.specs.declared.Cycle.{Cycle}
 use Rattle.chip.specs.declared.Event.{Event}
 use Rattle.chip.specs.declared.Event.TheVariants.{Bit, Null, Wait, Reset, Cut}
 use Rattle.chip.specs.Head.{at, silent}
-use Rattle.chip.specs.Stages.{named, opened, answers_address, answers_place, answers_data, caused_by_place, caused_by_data, next_byte, framed}
+use Rattle.chip.specs.Stages.{named, opened, answers_address, answers_place, answers_data, caused_by_place, caused_by_data, next_byte, framed, past}
 use Rattle.chip.specs.Cycle.{running, due, null_of, nulled, finished, cut_of, heard}
 use Rattle.chip.specs.Memory.{level_of, acted}
 use Rattle.chip.specs.Take.{head_of, joined, take_of}
 use Rattle.bits.proofs.Choices.{choice}
 use Rattle.wire.specs.Wire.{busy}
-use Rattle.bus.specs.Held.{bit_after, others_after, ninth_due, called, past}
+use Rattle.bus.specs.Held.{bit_after, others_after, ninth_due, called}
 
 -- ---- a device that an event only moves on
 abbrev pub staged : Device → Stage → Device

@@ -32,7 +32,8 @@ use Rattle.image.specs.Layout.{record_size}
 use Rattle.image.specs.InPlace.{InPlace}
 use Rattle.image.proofs.InPlaced.{in_place}
 use Rattle.std.specs.declared.ops.Range.{Range}
-use Rattle.bus.specs.Held.{number, progress, Room, blank_head, standing, others_after, called, past, span_in, span_of, level_in, page_in, acted_in, put_in, Played, unplayed, played}
+use Rattle.bus.specs.Held.{number, progress, Room, blank_head, standing, others_after, called, span_in, span_of, level_in, page_in, acted_in, put_in, Played, unplayed, played}
+use Rattle.chip.specs.Stages.{past}
 use Rattle.bus.proofs.Held.{record_pieces}
 use Rattle.bus.proofs.Wired.{Wired, arrived, begun, ended, turned, span_fits}
 use Rattle.bus.proofs.Passing.{Passed}

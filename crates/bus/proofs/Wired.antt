@@ -26,7 +26,8 @@ use Rattle.wire.specs.Wire.{busy, any_busy, barred, table_of, pulled}
 use Rattle.image.specs.Layout.{record_size}
 use Rattle.image.specs.InPlace.{InPlace}
 use Rattle.std.specs.declared.ops.Range.{Range}
-use Rattle.bus.specs.Held.{number, blank_head, standing, others_after, past, ninth_due, called, span, one_of, span_in, level_in, page_in, acted_in, put_in}
+use Rattle.bus.specs.Held.{number, blank_head, standing, others_after, ninth_due, called, span, one_of, span_in, level_in, page_in, acted_in, put_in}
+use Rattle.chip.specs.Stages.{past}
 use Rattle.bus.proofs.Held.{Held, blank}
 use Rattle.bus.proofs.Landing.{Apart, Quiet, Passing, a_bit, a_null, a_wait, a_reset, a_cut, reset_rests, Lands, lands, bit_others, apart_after, no}
 use Rattle.bus.proofs.Passing.{Passed, still, passed_none, passed_aside, passed_turn, passed_table, standing_other, standing_own}

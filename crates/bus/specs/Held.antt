@@ -1,6 +1,6 @@
 -- How a run holds the devices: heads in an array, gathered pages in another, the other bytes in the bus file itself. What its functions do to these; nothing of
 -- this is promised to a caller.
-use Rattle.std.specs.Prelude.{ℕ, ◌+◌, ◌*◌, ◌^◌, ◌%◌, ◌<◌, ◌≤◌, ◌≡◌, Bool, true, false, ◌||◌, List, [], ◌++◌, Option, Some, None, eqb, ltb, length, get_or, set, take, drop}
+use Rattle.std.specs.Prelude.{ℕ, ◌+◌, ◌*◌, ◌^◌, ◌%◌, ◌<◌, ◌≤◌, ◌≡◌, Bool, false, ◌||◌, List, [], ◌++◌, Option, Some, None, eqb, ltb, length, get_or, set, take, drop}
 use Rattle.bits.specs.Words.{pick, is_not}
 use Rattle.bits.specs.Bytes.{bit_at, more_of, slave_of}
 use Rattle.chip.specs.declared.Speed.TheVariants.{High}
@@ -20,14 +20,14 @@ use Rattle.chip.specs.declared.Event.TheVariants.{Bit, Null, Wait, Reset, Cut}
 use Rattle.chip.specs.declared.Framed.{Framed}
 use Rattle.chip.specs.Cycle.{heard}
 use Rattle.chip.specs.Head.{at}
-use Rattle.chip.specs.Stages.{shows, sending_of}
+use Rattle.chip.specs.Stages.{shows, sending_of, past}
 use Rattle.chip.specs.Memory.{burnt_to, page_base}
 use Rattle.tape.specs.Tape.{events_of}
 use Rattle.tape.specs.Promises.{NoFault}
 use Rattle.image.specs.Layout.{record_size, id_at, flags_at, main_at, main_size, serial_at, user_at, user_size}
 use Rattle.wire.specs.Wire.{busy, masters_level, pulled}
 use Rattle.std.specs.declared.ops.Range.{Range}
-use Rattle.bus.specs.declared.Byte.{Byte}
+use Rattle.chip.specs.declared.Byte.{Byte}
 use Rattle.bus.specs.declared.Progress.{Progress}
 
 -- ---- who hears an event
@@ -104,15 +104,6 @@ pub record Differ (heads : List Head) : Type 0 where
 pub record NamedIn (heads : List Head) (who : List (Option ℕ)) : Type 0 where
   pub long : length who ≡ 8
   pub named : Differ heads → (k : ℕ) → k < length heads → get_or who (get_or heads k blank_head).slave None ≡ Some k
-
--- a device past its device address
-abbrev pub past : Stage → Bool
-past Standby = false
-past (Address n x) = false
-past (Place c n x) = true
-past (Data c t n x) = true
-past (Sending s n) = true
-past (Programming c t) = true
 
 -- ---- what it answers
 -- where a region's cell stands in its record

@@ -5,8 +5,8 @@ ghost use Rattle.bus.specs.Held.{number, byte_of, resumed, pointed, glided, driv
 
 use crate::act::SILENT;
 use crate::talk::Talk;
-use crate::{Byte, Progress, act};
-use chip::{Drive, Head, Stage};
+use crate::{Progress, act};
+use chip::{Byte, Drive, Head, Stage};
 use image::RECORD_SIZE;
 use tape::{KIND, NULL, SHORT};
 
@@ -58,19 +58,17 @@ fn frames_of(
     }
 }
 
-impl Byte {
-    // The byte under way in a stage.
-    fn of(s: Stage) -> Byte
-        ensures { result ≡ byte_of s }
-    {
-        match s {
-            Stage::Standby => Byte { count: 0, bits: 0 },
-            Stage::Address(count, bits)
-            | Stage::Place(_, count, bits)
-            | Stage::Data(_, _, count, bits) => Byte { count, bits },
-            Stage::Sending(_, count) => Byte { count, bits: 0 },
-            Stage::Programming(..) => Byte { count: 8, bits: 0 },
-        }
+// The byte under way in a stage.
+fn byte_of(s: Stage) -> Byte
+    ensures { result ≡ byte_of s }
+{
+    match s {
+        Stage::Standby => Byte { count: 0, bits: 0 },
+        Stage::Address(count, bits)
+        | Stage::Place(_, count, bits)
+        | Stage::Data(_, _, count, bits) => Byte { count, bits },
+        Stage::Sending(_, count) => Byte { count, bits: 0 },
+        Stage::Programming(..) => Byte { count: 8, bits: 0 },
     }
 }
 
@@ -129,12 +127,12 @@ pub fn glide(
         Some(k) if k < count => {
             let head = heads[k];
             let shown = act::shown(bus, RECORD_SIZE * k, driven(head));
-            let (progress, byte) = frames_of(tape, start, answers, Byte::of(head.stage), shown);
+            let (progress, byte) = frames_of(tape, start, answers, byte_of(head.stage), shown);
             heads[k] = glided(head, byte);
             progress
         }
         _ => {
-            let (progress, byte) = frames(tape, start, answers, Byte::of(talk.others), SILENT);
+            let (progress, byte) = frames(tape, start, answers, byte_of(talk.others), SILENT);
             talk.others = resumed(talk.others, byte);
             progress
         }

@@ -19,13 +19,6 @@ pub struct Ran {
     pub refused: usize,
 }
 
-// A byte under way: how many of its bits came or went, and their value.
-#[derive(Clone, Copy)]
-pub struct Byte {
-    pub count: u8,
-    pub bits: u8,
-}
-
 // How far a run has come: the place in the event file, the number of answers.
 #[derive(Clone, Copy)]
 pub struct Progress {

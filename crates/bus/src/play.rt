@@ -29,7 +29,7 @@ fn places_of(heads: &[Head]) -> [Option<usize>; 8]
 {
     let mut who = [None; 8];
     for (j, head) in heads.iter().enumerate() {
-        who[(head.slave % 8) as usize] = Some(j);
+        who[usize::from(head.slave % 8)] = Some(j);
     }
     who
 }

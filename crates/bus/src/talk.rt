@@ -1,7 +1,8 @@
 // Which devices an event is played on, and where it moves the others together. At most one device is past its device address: it talks.
 ghost use Rattle.std.specs.Prelude.{◌≡◌, ◌<◌};
 ghost use Rattle.bits.specs.Words.{pick};
-ghost use Rattle.bus.specs.Held.{number, standing, bit_after, others_after, ninth_due, called, one_of, span_in, span_of, past};
+ghost use Rattle.bus.specs.Held.{number, standing, bit_after, others_after, ninth_due, called, one_of, span_in, span_of};
+ghost use Rattle.chip.specs.Stages.{past};
 
 use chip::{Event, Head, Stage};
 use std::ops::Range;
@@ -92,7 +93,7 @@ pub fn called(s: Stage) -> usize
     ensures { (result ≡ called s) × (result < 8) }
 {
     match s {
-        Stage::Address(_, x) => bits::slave(x) as usize,
+        Stage::Address(_, x) => usize::from(bits::slave(x)),
         _ => 0,
     }
 }
@@ -106,15 +107,9 @@ fn one_of(k: Option<usize>, count: usize) -> Range<usize>
     }
 }
 
-fn past(s: Stage) -> bool
-    ensures { result ≡ past s }
-{
-    !matches!(s, Stage::Standby | Stage::Address(..))
-}
-
 // Who talks, now that device k is in stage s.
 pub fn talks(next: Option<usize>, k: usize, s: Stage) -> Option<usize>
     ensures { number result ≡ pick (past s) k (number next) }
 {
-    if past(s) { Some(k) } else { next }
+    if s.is_past() { Some(k) } else { next }
 }

@@ -172,3 +172,12 @@ framed h (Data c t n x) b = pick (ltb n 8) (silent h (Data c t (n + 1) (more_of 
 framed h (Sending s n) b = sending_of h s n b
 -- "While a device programs, kinds 0, 1 and 4 are not carried out"
 framed h (Programming c t) b = silent h (Programming c t)
+
+-- a device past its device address
+abbrev pub past : Stage → Bool
+past Standby = false
+past (Address n x) = false
+past (Place c n x) = true
+past (Data c t n x) = true
+past (Sending s n) = true
+past (Programming c t) = true

@@ -3,9 +3,7 @@ ghost use Rattle.std.specs.Prelude.{◌≡◌};
 ghost use Rattle.chip.specs.Stages.{named, answers_opcode, answers_address, opened, caused_by_address, framed};
 ghost use Rattle.chip.specs.declared.Stage.TheVariants.{Address};
 
-use crate::{Act, Command, Drive, Framed, Head, Opcode, Region, Source, Speed, Stage};
-
-const PART_11: u8 = 0x11;
+use crate::{Act, Command, Drive, Framed, Head, Opcode, Part, Region, Source, Speed, Stage};
 
 impl From<u8> for Opcode {
     ghost from_gives = { λ code opcode. opcode ≡ named code };
@@ -36,7 +34,7 @@ impl Head {
             Opcode::FreezeZones => bits::thawed(self.flags),
             Opcode::ManufacturerId => reads,
             Opcode::StandardSpeed => {
-                self.part != PART_11 && (!reads || self.speed == Speed::Standard)
+                self.part != Part::At21cs11 as u8 && (!reads || self.speed == Speed::Standard)
             }
             Opcode::HighSpeed => !reads || self.speed == Speed::High,
             Opcode::Unknown => false,

@@ -105,11 +105,7 @@ impl Head {
     {
         match self.stage.running() {
             Some(_) => self.silent(self.stage),
-            None => Framed {
-                head: self.restarted(),
-                drive: Drive::Low,
-                act: Act::Nothing,
-            },
+            None => self.restarted().answering(Stage::Standby),
         }
     }
 
@@ -122,11 +118,7 @@ impl Head {
                 drive: Drive::Low,
                 act: Act::Program(command, self.pointer, taken, mask),
             },
-            None => Framed {
-                head: self.restarted(),
-                drive: Drive::Low,
-                act: Act::Nothing,
-            },
+            None => self.restarted().answering(Stage::Standby),
         }
     }
 

@@ -11,11 +11,19 @@ mod sending;
 mod take;
 
 ghost use Rattle.std.specs.Prelude.{◌≡◌};
+ghost use Rattle.chip.specs.Stages.{past};
 ghost use Rattle.chip.specs.Head.{at, pointing, choosing, paced, flagging, framing, silent, answering};
 
 pub use data::FIRST_USER;
 pub use memory::burn;
 pub use sending::{LAST_ID, LAST_MAIN, LAST_SECURITY};
+
+// The two parts that the model covers, each by its number in a record.
+#[derive(Clone, Copy)]
+pub enum Part {
+    At21cs01 = 0x01,
+    At21cs11 = 0x11,
+}
 
 // The two parts of the memory with pages: the main array (Ah) and the Security Register (Bh).
 #[derive(Clone, Copy)]
@@ -56,6 +64,13 @@ pub enum Stage {
     Sending(Source, u8),
     // a cycle runs: command, data bytes gathered
     Programming(Command, u8),
+}
+
+// A byte under way: how many of its bits came or went, and their value.
+#[derive(Clone, Copy, PartialEq, Eq)]
+pub struct Byte {
+    pub count: u8,
+    pub bits: u8,
 }
 
 #[derive(Clone, Copy, PartialEq, Eq)]
@@ -153,6 +168,15 @@ pub struct Device {
 pub struct Taken {
     pub device: Device,
     pub level: u8,
+}
+
+impl Stage {
+    // Past the device address: a device talks in such a stage.
+    pub fn is_past(self) -> bool
+        ensures { result ≡ past self }
+    {
+        !matches!(self, Stage::Standby | Stage::Address(..))
+    }
 }
 
 impl Head {

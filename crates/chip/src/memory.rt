@@ -1,5 +1,5 @@
 // The bytes of a device: what stands at an address, and what a cycle leaves.
-ghost use Rattle.std.specs.Prelude.{◌≡◌, ◌%◌};
+ghost use Rattle.std.specs.Prelude.{◌≡◌, ◌%◌, true};
 ghost use Rattle.chip.specs.Memory.{security_byte, cell_of, level_of, gathered, burnt_cell, burnt_to, programmed, acted};
 
 use crate::{Act, Command, Device, Drive, Region};
@@ -11,28 +11,29 @@ pub fn gathered(p: u8, taken: u8, k: u8) -> bool
     (p % 8 + 7 - k % 8) % 8 < taken
 }
 
-// One cell of a cycle, if it was gathered: the new byte's bits where its mask byte has ones.
-fn burn_cell(cells: &mut [u8], at: usize, on: bool, new: u8, mask: u8)
-    ensures { cells.new ≡ burnt_cell cells.old at on new mask }
+// One cell of a cycle: the new byte's bits where its mask byte has ones.
+fn burn_cell(cells: &mut [u8], at: usize, new: u8, mask: u8)
+    ensures { cells.new ≡ burnt_cell cells.old at true new mask }
 {
-    if on && at < cells.len() {
+    if at < cells.len() {
         cells[at] = bits::merge(cells[at], new, mask);
     }
 }
 
-// A cycle on the page of eight that begins at `base`.
+// A cycle on the page of eight that begins at `base`: the cells that were gathered.
 #[tactic(auto, unfolding(crate::specs::Memory::burnt_to))]
 pub fn burn(cells: &mut [u8], base: u8, page: &[u8; 8], p: u8, taken: u8, mask: u64)
     ensures { cells.new ≡ burnt_to 8 cells.old base page.now p taken mask }
 {
     for k in 0..8 {
-        burn_cell(
-            cells,
-            base as usize + k as usize,
-            gathered(p, taken, k),
-            page[k as usize],
-            bits::mask_byte(mask, k),
-        );
+        if gathered(p, taken, k) {
+            burn_cell(
+                cells,
+                usize::from(base) + usize::from(k),
+                page[usize::from(k)],
+                bits::mask_byte(mask, k),
+            );
+        }
     }
 }
 
@@ -41,7 +42,7 @@ impl Device {
     fn security_byte(&self, address: u8) -> u8
         ensures { result ≡ security_byte self.now (address % 32) }
     {
-        match (address % 32) as usize {
+        match usize::from(address % 32) {
             at @ 0..8 => self.serial[at],
             8..16 => 0xFF,
             at => self.user[at - 16],
@@ -53,7 +54,7 @@ impl Device {
         ensures { result ≡ cell_of self.now region p }
     {
         match region {
-            Region::Main => self.main[(p % 128) as usize],
+            Region::Main => self.main[usize::from(p % 128)],
             Region::Security => self.security_byte(p),
         }
     }
@@ -67,7 +68,7 @@ impl Device {
             Drive::Free => 1,
             Drive::Low => 0,
             Drive::CellBit(region, p, n) => bits::bit_at(self.cell(region, p), n),
-            Drive::IdBit(k, n) => bits::bit_at(self.id[(k % 3) as usize], n),
+            Drive::IdBit(k, n) => bits::bit_at(self.id[usize::from(k % 3)], n),
         }
     }
 
@@ -93,7 +94,7 @@ impl Device {
     {
         match act {
             Act::Nothing => {}
-            Act::Put(k, byte) => self.page[(k % 8) as usize] = byte,
+            Act::Put(k, byte) => self.page[usize::from(k % 8)] = byte,
             Act::Program(command, p, taken, mask) => self.program(command, p, taken, mask),
         }
     }

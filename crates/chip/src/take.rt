@@ -46,11 +46,13 @@ impl Device {
     }
 
     // The same by value.
-    pub fn take(self, ev: Event) -> Taken
+    pub fn take(mut self, ev: Event) -> Taken
         ensures { result ≡ take_of self ev }
     {
-        let mut device = self;
-        let level = device.takes(ev);
-        Taken { device, level }
+        let level = self.takes(ev);
+        Taken {
+            device: self,
+            level,
+        }
     }
 }

@@ -65,9 +65,10 @@ pub fn load_record(bus: &[u8], at: usize) -> Device
     ensures { result ≡ device_at bus.now at }
 {
     if bus.len().saturating_sub(at) < RECORD_SIZE {
-        return blank();
+        blank()
+    } else {
+        read_record(&bus[at..])
     }
-    read_record(&bus[at..])
 }
 
 // The devices of a bus file, or its first fault.

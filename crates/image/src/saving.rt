@@ -33,8 +33,7 @@ pub fn save_record(room: &mut [u8], at: usize, device: &Device)
     ensures placed { room.new ≡ saved_at room.old at device.now }
     ensures whole { at + record_size ≤ length room.old → length (record_of device.now) ≡ record_size }
 {
-    if room.len().saturating_sub(at) < RECORD_SIZE {
-        return;
+    if room.len().saturating_sub(at) >= RECORD_SIZE {
+        write_record(&mut room[at..at + RECORD_SIZE], device);
     }
-    write_record(&mut room[at..at + RECORD_SIZE], device);
 }

@@ -8,13 +8,14 @@ use crate::layout::{
     FLAGS_AT, HIGHEST_FLAGS, HIGHEST_SLAVE, LONGEST_FILE, MARK, PART_AT, RECORD_SIZE, RESERVED_AT,
     RESERVED_BYTE, RESERVED_SIZE, SLAVE_AT,
 };
+use chip::Part;
 use faults::{Fault, Refusal};
 
 // Whether a part's byte is that of an AT21CS01 or an AT21CS11.
 pub fn is_part(part: u8) -> bool
     ensures { result ≡ is_not (not_part part) }
 {
-    matches!(part, 0x01 | 0x11)
+    part == Part::At21cs01 as u8 || part == Part::At21cs11 as u8
 }
 
 // The first fault of a record, `at` bytes from the file's start; `least` is the least slave address that it may have.

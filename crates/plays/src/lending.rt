@@ -4,7 +4,7 @@ ghost use Rattle.lent.specs.Step.{step_answer};
 ghost use Rattle.lent.specs.Save.{save_answer, saved_room};
 ghost use Rattle.plays.specs.Lending.{lent_of, played_of};
 
-use chip::{Device, Speed, Stage};
+use chip::{Device, Part, Speed, Stage};
 use faults::Refusal;
 
 // One more than a table may have, so that too many can be lent.
@@ -22,7 +22,7 @@ pub struct Wired {
 
 fn device(slave: u8) -> Device {
     Device {
-        part: 0x11,
+        part: Part::At21cs11 as u8,
         slave,
         id: [0x00, 0xD3, 0x80],
         flags: 0,

@@ -1,9 +1,9 @@
 // 003, section 6.2: "If a Stop condition is sent at any other time, the write operation is aborted." Each write command, with a second data byte, is
 // left by a Null after each number of frames.
-use crate::device::Part;
+use crate::device::delivered;
 use crate::text::say;
 use crate::wire;
-use chip::{Device, Event};
+use chip::{Device, Event, Part};
 
 const FRAMES: u8 = 36;
 
@@ -15,13 +15,13 @@ const NEW: u8 = 0x5C;
 fn frame(bytes: [u8; 4], k: u8) -> u8 {
     match k % 9 {
         8 => 1,
-        place => bits::bit_at(bytes[(k / 9 % 4) as usize], place),
+        place => bits::bit_at(bytes[usize::from(k / 9 % 4)], place),
     }
 }
 
 // A device just after n frames of a command and a Null.
 fn left_after(bytes: [u8; 4], n: u8) -> Device {
-    let mut d = wire::started(Part::At21cs01.delivered());
+    let mut d = wire::started(delivered(Part::At21cs01));
     for k in 0..n {
         d = wire::after(d, Event::Bit(frame(bytes, k)));
     }

@@ -1,9 +1,9 @@
 // A bench with one device: it plays a script and writes each act with what came back.
-use crate::device::Part;
+use crate::device::delivered;
 use crate::script::{Act, Mode};
 use crate::text::say;
 use crate::wire::{self, Got};
-use chip::{Device, Event, Region, Taken};
+use chip::{Device, Event, Part, Region, Taken};
 
 #[derive(Drop)]
 struct Bench<'a, R> {
@@ -43,7 +43,7 @@ impl<R: Print> Bench<'_, R> {
 
     fn acts(&mut self, a: Act) {
         match a {
-            Act::Copy(c) => say!(self.rt; "{}", c as char),
+            Act::Copy(c) => say!(self.rt; "{}", char::from(c)),
             Act::Send(byte) => self.sends(byte),
             Act::Read(ninth) => self.reads(ninth),
             Act::Take(ev) => self.takes(ev),
@@ -53,7 +53,7 @@ impl<R: Print> Bench<'_, R> {
 }
 
 pub fn plays(rt: &impl Print, part: Part, letters: &[u8]) {
-    let device = part.delivered();
+    let device = delivered(part);
     let mut bench = Bench { rt, device };
     let mut mode = Mode::Words;
     for letter in letters {

@@ -1,6 +1,6 @@
 // Document 01, "Mixture": a Cut while the device programs. Mask bytes are counted from the right.
 use crate::bench;
-use crate::device::Part;
+use chip::Part;
 
 fn cells(rt: &impl Print) {
     bench::plays(

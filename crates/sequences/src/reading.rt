@@ -1,7 +1,7 @@
 // 003, sections 7.1 to 7.3 and 7.5: reads of the main array, and the manufacturer ID.
 use crate::bench;
-use crate::device::Part;
 use crate::text::say;
+use chip::Part;
 
 fn main_array(rt: &impl Print) {
     bench::plays(

@@ -1,6 +1,6 @@
 // Document 01: "After load, Reset or Cut: pointer 00h, high speed, no zone selector, and bits are ignored until a Null or Wait." No lock is cleared.
 use crate::bench;
-use crate::device::Part;
+use chip::Part;
 
 pub fn plays(rt: &impl Print) {
     bench::plays(

@@ -1,13 +1,14 @@
 // 003, sections 6.4, 6.5 and 7.4: the Security Register, its serial number and its lock.
-use crate::device::Part;
+use crate::device::delivered;
 use crate::text::say;
 use crate::{bench, wire};
+use chip::Part;
 
 const ADDRESSES: u8 = 32;
 
 // The answer to a data byte at an address.
 fn answer_at(address: u8) -> u8 {
-    let d = wire::started(Part::At21cs01.delivered());
+    let d = wire::started(delivered(Part::At21cs01));
     let a = wire::passes(wire::passes(d, 0xB0), address);
     wire::sends(a, 0x77).level
 }

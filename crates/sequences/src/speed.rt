@@ -1,7 +1,7 @@
 // 003, section 6.6: the speeds, set with R/W 0 and asked with R/W 1. Part 11h has no standard speed.
 use crate::bench;
-use crate::device::Part;
 use crate::text::say;
+use chip::Part;
 
 fn speeds(rt: &impl Print, part: Part) {
     bench::plays(

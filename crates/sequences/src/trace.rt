@@ -1,7 +1,7 @@
 // Document 01, "The trace program": its example, to the letter.
-use crate::device::Part;
+use crate::device::delivered;
 use crate::text::say;
-use chip::{Device, Event, Stage};
+use chip::{Device, Event, Part, Stage};
 
 const EVENTS: usize = 10;
 
@@ -27,7 +27,7 @@ fn answer(d: Device, ev: Event) -> u8 {
 }
 
 fn answers(letters: [u8; EVENTS]) -> [u8; EVENTS] {
-    let mut d = Part::At21cs11.delivered();
+    let mut d = delivered(Part::At21cs11);
     letters.map(|letter| {
         let ev = event(letter);
         let found = answer(d, ev);
@@ -43,6 +43,6 @@ pub fn example(rt: &impl Print) {
     let refused = found.iter().filter(|f| **f == NOT_CARRIED_OUT).count();
     say!(rt; "events {EVENTS} refused {refused}\n");
     for (i, (letter, byte)) in letters.into_iter().zip(found).enumerate() {
-        say!(rt; "{i} {} {byte:02X}\n", letter as char);
+        say!(rt; "{i} {} {byte:02X}\n", char::from(letter));
     }
 }

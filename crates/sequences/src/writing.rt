@@ -1,6 +1,6 @@
 // 003, sections 4 and 6.1 to 6.3: device address, byte write, page write, and the device during a cycle.
 use crate::bench;
-use crate::device::Part;
+use chip::Part;
 
 fn byte_write(rt: &impl Print) {
     bench::plays(

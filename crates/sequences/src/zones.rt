@@ -1,6 +1,6 @@
 // 003, section 8: the ROM zones, their registers, and the freeze.
 use crate::bench;
-use crate::device::Part;
+use chip::Part;
 
 pub fn plays(rt: &impl Print) {
     bench::plays(

@@ -21,7 +21,7 @@ use Rattle.chip.specs.declared.Stage.TheVariants.{Standby, Address, Place, Data,
 use Rattle.chip.specs.Take.{head_of}
 use Rattle.wire.specs.Wire.{busy, any_busy}
 use Rattle.image.specs.Layout.{most_records}
-use Rattle.table.specs.declared.Bits.{Bits}
+use Rattle.chip.specs.declared.Byte.{Byte}
 use Rattle.table.specs.declared.Survey.{Survey}
 use Rattle.table.specs.declared.Verdict.{Verdict}
 use Rattle.table.specs.WellFormed.{good_load, good_loads, good_pointer, good_selector, good_counts, good_held, good_device, good_devices, is_past, is_hearing, is_started, is_programming, total, agree_from, all_same_as, same_bits, one_talks, well_formed}
@@ -88,9 +88,9 @@ seen_busy s [] = pick_last s.busy
 seen_busy s (d ∷ ds) = seen_busy (seen s (head_of d)) ds ∙ pick_mixed s.busy (busy d.stage) (any_busy ds)
 
 -- ---- the same bits: what is left, with the bits of the first that reads its device address
-abbrev agreeing : Option Bits → List Device → Bool
+abbrev agreeing : Option Byte → List Device → Bool
 agreeing None ds = same_bits ds
-agreeing (Some b) ds = all_same_as b.count b.value ds
+agreeing (Some b) ds = all_same_as b.count b.bits ds
 
 agree_none : (s : Stage) (ds : List Device) → agree_from s ds (same_bits ds) ≡ agreeing (first_of None s) ds
 unfolding first_of
@@ -101,12 +101,12 @@ agree_none (Data c t n x) ds = refl
 agree_none (Sending q n) ds = refl
 agree_none (Programming c t) ds = refl
 
-agree_cons : (first : Option Bits) (d : Device) (ds : List Device) → agreeing first (d ∷ ds) ≡ both (same_with first d.stage) (agreeing (first_of first d.stage) ds)
+agree_cons : (first : Option Byte) (d : Device) (ds : List Device) → agreeing first (d ∷ ds) ≡ both (same_with first d.stage) (agreeing (first_of first d.stage) ds)
 unfolding same_bits all_same_as same_with first_of
 agree_cons None d ds = agree_none d.stage ds
 agree_cons (Some b) d ds = refl
 
-agree_nil : (first : Option Bits) → agreeing first [] ≡ true
+agree_nil : (first : Option Byte) → agreeing first [] ≡ true
 unfolding same_bits all_same_as
 agree_nil None = refl
 agree_nil (Some b) = refl

@@ -1,6 +1,7 @@
 -- This promises nothing by itself: it says how one pass over the heads of a table decides, for the contracts of the functions that `judge` calls.
 use Rattle.std.specs.Prelude.{ℕ, ◌+◌, ◌%◌, Bool, true, false, List, [], ◌∷◌, eqb, ltb, Option, Some, None}
 use Rattle.bits.specs.Words.{pick, both}
+use Rattle.chip.specs.declared.Byte.{Byte}
 use Rattle.chip.specs.declared.Device.{Device}
 use Rattle.chip.specs.declared.Head.{Head}
 use Rattle.chip.specs.declared.Stage.{Stage}
@@ -9,7 +10,6 @@ use Rattle.chip.specs.Take.{head_of, joined}
 use Rattle.image.specs.Layout.{most_records}
 use Rattle.image.specs.Image.{blank_device}
 use Rattle.wire.specs.Wire.{busy}
-use Rattle.table.specs.declared.Bits.{Bits}
 use Rattle.table.specs.declared.Survey.{Survey}
 use Rattle.table.specs.WellFormed.{good_load, good_device, is_past, is_hearing, is_started, is_programming, same_as}
 
@@ -23,14 +23,14 @@ abbrev pub tally : ℕ → ℕ → ℕ
 tally n k = n % 16 + k % 2
 
 -- a device and the bits of the first before it that reads its device address, if there is one
-unfoldable pub same_with : Option Bits → Stage → Bool
+unfoldable pub same_with : Option Byte → Stage → Bool
 same_with None s = true
-same_with (Some b) s = same_as b.count b.value s
+same_with (Some b) s = same_as b.count b.bits s
 
-unfoldable pub first_of : Option Bits → Stage → Option Bits
+unfoldable pub first_of : Option Byte → Stage → Option Byte
 first_of (Some b) s = Some b
 first_of None Standby = None
-first_of None (Address n x) = Some (record { count = n; value = x })
+first_of None (Address n x) = Some (record { count = n; bits = x })
 first_of None (Place c n x) = None
 first_of None (Data c t n x) = None
 first_of None (Sending q n) = None

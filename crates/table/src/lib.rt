@@ -11,14 +11,7 @@ mod talk;
 ghost use Rattle.std.specs.Prelude.{◌≡◌};
 ghost use Rattle.table.specs.Verdict.{verdict_of};
 
-use chip::Device;
-
-// The bits of a device address so far: how many, and their value.
-#[derive(Clone, Copy)]
-pub struct Bits {
-    pub count: u8,
-    pub value: u8,
-}
+use chip::{Byte, Device};
 
 // What a pass over the heads has seen. The counts are exact below sixteen.
 #[derive(Clone, Copy)]
@@ -30,7 +23,7 @@ pub struct Survey {
     pub started: u8,
     pub programming: u8,
     // of the first device that reads its device address, if one does
-    pub first: Option<Bits>,
+    pub first: Option<Byte>,
     pub same: bool,
     pub busy: bool,
 }

@@ -6,6 +6,9 @@ ghost use Rattle.table.specs.Survey.{bare};
 use chip::{Command, Head, LAST_ID, LAST_MAIN, LAST_SECURITY, Region, Source, Stage};
 use image::HIGHEST_ZONE;
 
+// The highest pointer wherever no address is below it.
+const HIGHEST: u8 = LAST_MAIN;
+
 const BYTE_BITS: u8 = 8;
 
 const PAGE_SIZE: u8 = 8;
@@ -16,8 +19,7 @@ fn highest_in(command: Command) -> u8
 {
     match command {
         Command::Page(Region::Security) => LAST_SECURITY,
-        Command::Page(Region::Main) => LAST_MAIN,
-        Command::Lock | Command::Check | Command::Rom | Command::Freeze => LAST_MAIN,
+        _ => HIGHEST,
     }
 }
 
@@ -26,7 +28,7 @@ fn highest_pointer(stage: Stage) -> u8
 {
     match stage {
         Stage::Data(command, _, _, _) | Stage::Programming(command, _) => highest_in(command),
-        _ => LAST_MAIN,
+        _ => HIGHEST,
     }
 }
 
@@ -40,10 +42,7 @@ pub fn good_pointer(head: Head) -> bool
 fn in_zones(selector: Option<u8>) -> bool
     ensures { result ≡ in_zones selector }
 {
-    match selector {
-        Some(zone) => zone <= HIGHEST_ZONE,
-        None => true,
-    }
+    selector.is_none_or(|zone| zone <= HIGHEST_ZONE)
 }
 
 fn asks_zone(command: Command) -> bool

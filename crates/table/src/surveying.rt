@@ -43,7 +43,7 @@ impl Survey {
             past: tally(self.past, talk::is_past(stage)),
             hearing: tally(self.hearing, talk::is_hearing(stage)),
             started: tally(self.started, talk::is_started(stage)),
-            programming: tally(self.programming, talk::is_programming(stage)),
+            programming: tally(self.programming, u8::from(wire::busy(stage))),
             first: talk::first_of(self.first, stage),
             same: self.same && talk::same_with(self.first, stage),
             busy: self.busy || wire::busy(stage),
@@ -57,7 +57,7 @@ impl Survey {
         match self.past {
             0 => self.same,
             1 if self.programming == 0 => self.hearing == 0,
-            1 => self.started as usize + 1 == count,
+            1 => usize::from(self.started) + 1 == count,
             _ => false,
         }
     }

@@ -22,9 +22,9 @@ const MASK: usize = 8;
 // The kinds after 0 and 1, which are a bit frame's.
 pub const NULL: u8 = 2;
 
-const WAIT: u8 = 3;
+pub const WAIT: u8 = 3;
 
-const RESET: u8 = 4;
+pub const RESET: u8 = 4;
 
 // The last kind, and the only one with a mask.
 pub const CUT: u8 = 5;

@@ -9,7 +9,7 @@ use std::io::{Read, Write};
 use text::Text;
 
 // One byte more than document 01 allows, so that a longer file is seen to be longer and refused by its number.
-const BUS_ROOM: usize = 8 * 168 + 1;
+const BUS_ROOM: usize = image::LONGEST_FILE + 1;
 
 const TAPE_ROOM: usize = tape::LONGEST + 1;
 
