@@ -58,7 +58,7 @@ module _ (bus tape answers : List ℕ) where
     pub answers_after : answers' ≡ answers_after bus tape answers
     pub reading : bus' ≡ bus_read bus tape (length answers)
 
-  refused : (f : Fault) → run_fault bus tape (length answers) ≡ Err f → Ends (Err f) bus answers
+  pub refused : (f : Fault) → run_fault bus tape (length answers) ≡ Err f → Ends (Err f) bus answers
   unfolding ran_of bus_after answers_after bus_read
   refused f e = record { value = rw e refl; bus_after = rw e refl; answers_after = rw e refl; reading = rw e refl }
 

@@ -29,10 +29,11 @@ use Rattle.chip.specs.Stages.{register_drive, shows, framed, past}
 use Rattle.chip.specs.Cycle.{heard}
 use Rattle.bits.proofs.Choices.{choice}
 use Rattle.wire.specs.Wire.{busy, any_busy, pulled}
+use Rattle.tape.specs.Tape.{events_of}
 use Rattle.image.specs.Layout.{record_size}
 use Rattle.chip.specs.declared.Byte.{Byte}
 use Rattle.bus.specs.declared.Progress.{Progress}
-use Rattle.bus.specs.Held.{unplayed, played, number, blank_head, standing, bit_after, ninth_due, called, span, span_of, byte, longer, progress, byte_of, resumed, pointed, glided, shown_in, driven, level_in, acted_in, put_to, Frames, none, more, Glides, own, apart}
+use Rattle.bus.specs.Held.{Room, unplayed, played, number, blank_head, standing, bit_after, ninth_due, called, span, span_of, byte, longer, progress, byte_of, resumed, pointed, glided, shown_in, driven, level_in, acted_in, put_to, Frames, none, more, Glides, own, apart}
 use Rattle.bus.proofs.Held.{blank}
 use Rattle.bus.proofs.Landing.{Apart, rests, reads, apart_free, no}
 use Rattle.bus.proofs.Passing.{standing_own, standing_other}
@@ -281,3 +282,7 @@ module _ {n : ℕ} {bus₀ tape : List ℕ} {who : List (Option ℕ)} {answers�
       → Glides n bus tape talker p₀ others hs answers p others' hs' answers' → Along hs' others' p answers'
   ran_glide few long (own small f) = glide_own few long small f
   ran_glide few long (apart none' f) = glide_apart none' f
+
+  -- what is left has no fault, and room for its answers
+  pub ran_space : (space : ℕ) → length (events_of tape) ≤ space → Room tape p₀ space
+  ran_space space h = record { sound = r.sound; left = omega (arith, r.left) }

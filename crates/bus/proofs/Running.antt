@@ -94,8 +94,8 @@ module _ {n : ℕ} {bus₀ tape : List ℕ} {who : List (Option ℕ)} {answers�
   ran_room h = let q = (begins at (drop at tape) (some_left tape at h) r.sound).one in omega (arith, r.left)
 
   -- what is left then has no fault, and room for its answers
-  pub ran_space : at < length tape → (e : Read) → e ≡ read_of (drop at tape) → (room : ℕ) → length (events_of tape) ≤ room → Room tape (progress (at + e.size) (i + 1)) room
-  ran_space h e q room few =
+  pub ran_ahead : at < length tape → (e : Read) → e ≡ read_of (drop at tape) → (room : ℕ) → length (events_of tape) ≤ room → Room tape (progress (at + e.size) (i + 1)) room
+  ran_ahead h e q room few =
       let b = begins at (drop at tape) (some_left tape at h) r.sound in
       let k = rw (events_next tape at h) at r.left in
       rw q (record { sound = subst (λ (l : List ℕ). NoFault (at + size_of (kind_of (drop at tape))) l) (beyond tape at h) b.rest; left = omega arith })
@@ -182,7 +182,7 @@ module _ {n : ℕ} {who : List (Option ℕ)} {talker : ℕ} {others : Stage} {an
     unfolding span_of
     none_played e h = not-suc-le-zero (rw (q.played, e) at h)
 
-    inner_more : InPlace → s.start ≤ j → j < s.end → j < n → j < length hs
+    pub inner_more : InPlace → s.start ≤ j → j < s.end → j < n → j < length hs
         → Inner n who talker others any hs₀ pages₀ bus₀ ev t s (set hs j (heard (standing talker others j (get_or hs j blank_head)) ev).head) (put_in pages j (heard (standing talker others j (get_or hs j blank_head)) ev).act)
         (acted_in bus (record_size * j) (heard (standing talker others j (get_or hs j blank_head)) ev).head.flags (page_in pages j) (heard (standing talker others j (get_or hs j blank_head)) ev).act) (j + 1)
         (pulled (level_in bus (record_size * j) (heard (standing talker others j (get_or hs j blank_head)) ev).drive) low) (pick (past (heard (standing talker others j (get_or hs j blank_head)) ev).head.stage) j next) (pick b true (busy (heard (standing talker others j (get_or hs j blank_head)) ev).head.stage))

@@ -1,5 +1,5 @@
 // Null, Wait, Reset and Cut: how a cycle begins and ends.
-ghost use Rattle.std.specs.Prelude.{◌≡◌};
+ghost use Rattle.std.specs.Prelude.{◌≡◌, None};
 ghost use Rattle.chip.specs.Stages.{framed};
 ghost use Rattle.chip.specs.Cycle.{running, due, nulled, one_way, rom_bit, flags_after, finished, restarted, reset_of, cut_of, heard};
 
@@ -100,12 +100,23 @@ impl Head {
         }
     }
 
+    // Restarted with no cycle running: the device shows that it is there.
+    fn discovered(self) -> Framed
+        ensures { result ≡ reset_of self None }
+    {
+        Framed {
+            head: self.restarted(),
+            drive: Drive::Low,
+            act: Act::Nothing,
+        }
+    }
+
     pub fn reset(self) -> Framed
         ensures { result ≡ reset_of self (running self.stage) }
     {
         match self.stage.running() {
             Some(_) => self.silent(self.stage),
-            None => self.restarted().answering(Stage::Standby),
+            None => self.discovered(),
         }
     }
 
@@ -118,7 +129,7 @@ impl Head {
                 drive: Drive::Low,
                 act: Act::Program(command, self.pointer, taken, mask),
             },
-            None => self.restarted().answering(Stage::Standby),
+            None => self.discovered(),
         }
     }
 

@@ -15,7 +15,7 @@ ghost use Rattle.chip.specs.Stages.{past};
 ghost use Rattle.chip.specs.Head.{at, pointing, choosing, paced, flagging, framing, silent, answering};
 
 pub use data::FIRST_USER;
-pub use memory::burn;
+pub use memory::{burn, enact, level};
 pub use sending::{LAST_ID, LAST_MAIN, LAST_SECURITY};
 
 // The two parts that the model covers, each by its number in a record.

@@ -4,7 +4,7 @@ use native.Mathlib.Omega.{arith}
 use mathlib.Core.Path.{◌≡◌, refl, sym, ap, ◌∙◌}
 use mathlib.Core.Bool.{Bool, true, false}
 use mathlib.Core.List.{List, [], ◌∷◌, map}
-use borrow.Author.Tests.{lt-ltb, le-ltb, lt-leb}
+use borrow.Author.Tests.{lt-ltb, le-ltb}
 use lib.ListN.{length}
 use Rattle.bits.specs.Words.{pick}
 use Rattle.chip.specs.declared.Region.TheVariants.{Main, Security}
@@ -37,24 +37,21 @@ use Rattle.table.proofs.Kept.{kept}
 use Rattle.std.specs.Prelude.{Result, Ok}
 use Rattle.faults.specs.declared.Refusal.{Refusal}
 use Rattle.faults.specs.Faults.{number_in, number_by}
-use Rattle.faults.proofs.FaultLaws.{done_by, refused_by, number_stays, held_by}
+use Rattle.faults.proofs.FaultLaws.{refused_by, number_stays, held_by}
 use Rattle.lent.specs.Step.{answer_byte_of, last_kind, step_check, step_number, stepped_of, step_answer}
 use Rattle.lent.specs.Save.{save_number, save_answer, saved_room}
+use Rattle.lent.proofs.Numbers.{many, save_done}
 use Rattle.lent.proofs.Steps.{answered, stepped, kind_done}
 use Rattle.lent.specs.Road.{kind_of, mask_of, steps_of, step_answers, Steps, Road}
 
 -- ---- one step, one save
-many : (ds : List Device) → most_records < length ds → well_formed ds ≡ false
-unfolding well_formed
-many ds h = rw (lt-leb (length ds) most_records h) refl
-
 step_many : (ds : List Device) (kind : ℕ) → most_records < length ds → step_number ds kind ≡ 15
 unfolding step_check
-step_many ds kind h = rw (many ds h) refl
+step_many ds kind h = rw (← many ds h) refl
 
 save_many : (ds : List Device) (room : ℕ) → most_records < length ds → save_number ds room ≡ 15
 unfolding save_answer
-save_many ds room h = rw (many ds h) refl
+save_many ds room h = rw (← many ds h) refl
 
 step_refused : (ds : List Device) (kind mask : ℕ) → (step_number ds kind ≡ 0 → ⊥) → (number_by (step_answer ds kind mask) ≡ step_number ds kind) × (stepped_of ds kind mask ≡ ds)
 unfolding step_answer stepped_of
@@ -172,11 +169,10 @@ module _ (bus tape : List ℕ) (e : number_in (bus_fault bus) ≡ 0) (b : Bytes 
         rw (kept.run ds (events_of tape) (kept.load bus e), le-ltb (length room) (record_size * length last) (omega (arith, z, f, h))) refl
 
     saved_done : save_answer last (length room) ≡ Ok tt
-    saved_done = done_by (save_answer last (length room)) number_none
+    saved_done = sym (save_done last room number_none).0
 
     saved_file : saved_room last room ≡ saved_of last
-    unfolding saved_room
-    saved_file = rw saved_done (laid_all room (saved_of last) (h ∙ sym file_long))
+    saved_file = sym (save_done last room number_none).1 ∙ laid_all room (saved_of last) (h ∙ sym file_long)
 
   steps_are : steps_of ds (events_of tape) ≡ last
   steps_are = all_steps ds (events_of tape) (kept.load bus e) good

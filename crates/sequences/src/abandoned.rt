@@ -51,7 +51,8 @@ fn tries<F: Fn([u8; 4], u8) -> bool>(rt: &impl Print, words: &str, bytes: [u8; 4
     say!(rt; "{words}");
     for n in 0..=FRAMES {
         if ended(bytes, n) {
-            say!(rt; " {n}");
+            say!(rt; " ");
+            say!(rt; "{n}");
         }
     }
     say!(rt; "\n");

@@ -1,7 +1,7 @@
 // A bench with one device: it plays a script and writes each act with what came back.
 use crate::device::delivered;
 use crate::script::{Act, Mode};
-use crate::text::say;
+use crate::text::{self, say};
 use crate::wire::{self, Got};
 use chip::{Device, Event, Part, Region, Taken};
 
@@ -15,13 +15,15 @@ impl<R: Print> Bench<'_, R> {
     fn sends(&mut self, byte: u8) {
         let Taken { device, level } = wire::sends(self.device, byte);
         self.device = device;
-        say!(self.rt; " {byte:02X}:{level}");
+        say!(self.rt; " ");
+        text::exchange(self.rt, byte, level);
     }
 
     fn reads(&mut self, ninth: u8) {
         let Got { device, byte } = wire::gets(self.device);
         self.device = wire::after(device, Event::Bit(ninth));
-        say!(self.rt; " <{byte:02X}:{ninth}");
+        say!(self.rt; " <");
+        text::exchange(self.rt, byte, ninth);
     }
 
     // An event is written as its letter, with the mask of a Cut and the level of the discovery response.
@@ -31,19 +33,32 @@ impl<R: Print> Bench<'_, R> {
             Event::Bit(b) => say!(self.rt; "{}", b % 2),
             Event::Null => say!(self.rt; " N"),
             Event::Wait => say!(self.rt; " W"),
-            Event::Reset => say!(self.rt; " R:{level}"),
-            Event::Cut(mask) => say!(self.rt; " C({mask:016X}):{level}"),
+            Event::Reset => {
+                say!(self.rt; " R:");
+                say!(self.rt; "{level}");
+            }
+            Event::Cut(mask) => {
+                say!(self.rt; " C(");
+                for byte in mask.to_be_bytes() {
+                    text::byte(self.rt, byte);
+                }
+                say!(self.rt; "):");
+                say!(self.rt; "{level}");
+            }
         }
     }
 
     fn looks(&self, address: u8) {
         let cell = self.device.cell(Region::Main, address);
-        say!(self.rt; " ?{address:02X}={cell:02X}");
+        say!(self.rt; " ?");
+        text::byte(self.rt, address);
+        say!(self.rt; "=");
+        text::byte(self.rt, cell);
     }
 
     fn acts(&mut self, a: Act) {
         match a {
-            Act::Copy(c) => say!(self.rt; "{}", char::from(c)),
+            Act::Copy(c) => text::letter(self.rt, c),
             Act::Send(byte) => self.sends(byte),
             Act::Read(ninth) => self.reads(ninth),
             Act::Take(ev) => self.takes(ev),

@@ -1,6 +1,6 @@
 // Document 01, "The trace program": its example, to the letter.
 use crate::device::delivered;
-use crate::text::say;
+use crate::text::{self, say};
 use chip::{Device, Event, Part, Stage};
 
 const EVENTS: usize = 10;
@@ -41,8 +41,17 @@ pub fn example(rt: &impl Print) {
     let letters = *b"N101000001";
     let found = answers(letters);
     let refused = found.iter().filter(|f| **f == NOT_CARRIED_OUT).count();
-    say!(rt; "events {EVENTS} refused {refused}\n");
+    say!(rt; "events ");
+    say!(rt; "{EVENTS}");
+    say!(rt; " refused ");
+    say!(rt; "{refused}");
+    say!(rt; "\n");
     for (i, (letter, byte)) in letters.into_iter().zip(found).enumerate() {
-        say!(rt; "{i} {} {byte:02X}\n", char::from(letter));
+        say!(rt; "{i}");
+        say!(rt; " ");
+        text::letter(rt, letter);
+        say!(rt; " ");
+        text::byte(rt, byte);
+        say!(rt; "\n");
     }
 }

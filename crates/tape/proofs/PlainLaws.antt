@@ -7,7 +7,7 @@ use lib.Dec.{eqb, ltb}
 use lib.ListN.{length, get_or, take, drop, length-drop}
 use lib.Seq.{drop-drop, get_or-drop}
 use native.Mathlib.Omega.{arith}
-use borrow.Author.Tests.{ltb-true, ne_eqb, le-ltb}
+use borrow.Author.Tests.{eqb-true, ltb-true}
 use Rattle.std.proofs.lemmas.Iterator.{YieldsList}
 use Rattle.std.proofs.lemmas.Iterator.Splits.{YieldsList-from_shown_while}
 use Rattle.std.proofs.lemmas.List.Sums.{prefix_len-le-length, prefix_len_passes}
@@ -16,6 +16,7 @@ use Rattle.std.specs.Slice.Iter.{chunks_exact_rest, chunks_exact_size, chunks_ex
 use Rattle.bits.specs.Words.{both}
 use Rattle.faults.specs.Faults.{number_in}
 use Rattle.tape.specs.Tape.{kind_of, size_of, event_fault, plain, Plain}
+use Rattle.tape.proofs.ScanLaws.{plain_sound, plain_size}
 
 -- ---- the pieces
 abbrev pub threes : List ℕ → List (List ℕ)
@@ -59,15 +60,13 @@ threes_yielded s h =
 
 -- ---- a plain event has no fault, and three bytes
 plain_event : (p : ℕ) (l : List ℕ) → plain (take 3 l) ≡ true → (number_in (event_fault p l) ≡ 0) × (size_of (kind_of l) ≡ 3)
-unfolding event_fault
 plain_event p [] e = absurd cc
 plain_event p (a ∷ []) e = absurd cc
 plain_event p (a ∷ b ∷ []) e = absurd cc
 plain_event p (a ∷ b ∷ c ∷ l) e =
     let t = all (eqb a 0x45) (eqb b 0x56) (ltb c 5) e in
     let known = ltb-true c 5 t.2 in
-    let short = ne_eqb c 5 (λ z. omega arith) in
-    (rw (t.0, t.1, le-ltb 5 c (omega arith), short, le-ltb (length (a ∷ b ∷ c ∷ l)) 3 (omega arith)) refl, rw short refl)
+    (plain_sound p (a ∷ b ∷ c ∷ l) (omega arith) (eqb-true a 0x45 t.0) (eqb-true b 0x56 t.1) known, plain_size c known)
   where
     all : (m n k : Bool) → both (both m n) k ≡ true → (m ≡ true) × (n ≡ true) × (k ≡ true)
     all true true true e = (refl, refl, refl)

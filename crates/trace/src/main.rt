@@ -1,6 +1,8 @@
 // The trace program: bus.img and events.trc of the current directory in, a line of text for each event out. It writes no file.
 #![tactic(auto)]
 
+ghost use Rattle.std.specs.Prelude.{◌≤◌, length};
+
 mod text;
 
 use std::fs::File;
@@ -19,7 +21,9 @@ const ANSWER_ROOM: usize = tape::LONGEST / tape::SHORT;
 const TEXT_ROOM: usize = 11 * ANSWER_ROOM + 64;
 
 // The start of a file, as much of it as the room has place for; a missing file counts as empty.
-fn read_file<'a>(rt: &HostRuntime, name: &str, room: &'a mut [u8]) -> &'a mut [u8] {
+fn read_file<'a>(rt: &HostRuntime, name: &str, room: &'a mut [u8]) -> &'a mut [u8]
+    ensures { length result.now ≤ length room.old }
+{
     match File::open(rt, name) {
         Ok(file) => read_full(file, room),
         Err(_) => &mut [],
@@ -27,9 +31,13 @@ fn read_file<'a>(rt: &HostRuntime, name: &str, room: &'a mut [u8]) -> &'a mut [u
 }
 
 // The bytes of a file until it or the room ends, or no more can be read.
-fn read_full(mut file: File, room: &mut [u8]) -> &mut [u8] {
+fn read_full(mut file: File, room: &mut [u8]) -> &mut [u8]
+    ensures { length result.now ≤ length room.old }
+{
     let mut filled = 0;
-    while let Ok(more) = file.read(&mut room[filled..]) {
+    while filled < room.len()
+        && let Ok(more) = file.read(&mut room[filled..])
+    {
         if more == 0 {
             break;
         }

@@ -1,8 +1,8 @@
 use Rattle.std.proofs.Common.{◌≡◌, length, ◌-◌, ◌≤◌}
 use Rattle.trace.proofs.read_full.Given as goal
 
-abbrev pub invariant-loop-more : goal.invariant-loop-more
-invariant-loop-more l = (l.filled ≤ length l.room) × (length l.room ≡ length l.initial.room)
+abbrev pub invariant-loop-filled : goal.invariant-loop-filled
+invariant-loop-filled l = (l.filled ≤ length l.room) × (length l.room ≡ length l.initial.room)
 
-abbrev pub decreases-loop-more : goal.decreases-loop-more
-decreases-loop-more l = length l.initial.room - l.filled
+abbrev pub decreases-loop-filled : goal.decreases-loop-filled
+decreases-loop-filled l = length l.initial.room - l.filled

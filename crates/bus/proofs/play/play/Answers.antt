@@ -7,7 +7,7 @@ use Rattle.bus.proofs.Frames.{glides_went}
 use Rattle.bus.proofs.Gliding.{ran_glide}
 use Rattle.bus.specs.Held.{number, others_after}
 use Rattle.bus.proofs.Held.{saved_flat}
-use Rattle.bus.proofs.Running.{at_most_one, ran_none, wired_long, turns_by, ran_whole, ran_room, ran_space, ran_turn, ran_last, ran_answers, ran_refused, span_most}
+use Rattle.bus.proofs.Running.{at_most_one, ran_none, wired_long, turns_by, ran_whole, ran_room, ran_ahead, ran_turn, ran_last, ran_answers, ran_refused, span_most}
 use Rattle.bus.proofs.Starting.{started}
 use Rattle.bits.specs.Words.{pick}
 use Rattle.bus.proofs.play.play.Goals as goal
@@ -44,7 +44,7 @@ bounds-answers-progress c =
 pub glide-progress-requires : goal.glide-progress-requires
 glide-progress-requires c =
     let inv = c.loop-progress.invariant in (
-      ran_space inv.ran c.loop-progress-test.true _ c.event_at-read.ensures _ (simp (length-set, inv.room) c.requires.3),
+      ran_ahead inv.ran c.loop-progress-test.true _ c.event_at-read.ensures _ (simp (length-set, inv.room) c.requires.3),
       c.requires.4,
       c.hear-heard.auto.bus ∙ inv.file,
     )
